@@ -9,18 +9,18 @@ use Rattle.sync_plan.specs.Waits.{posts_at, waits_for}
 use Rattle.sync_plan.specs.declared.plan.Plan.{Plan}
 use Rattle.spmd_model.specs.Deeds.{Deed, awaiting, posting}
 use Rattle.spmd_model.specs.Timelines.{await, counter, post}
-use Rattle.spmd_turns.specs.Turns.{Turn, awaits, begins, boundary_turns, posts, turn_deeds, works}
-use Rattle.spmd_turns.specs.TurnsLeft.{turns_left}
-use Rattle.spmd_turns.specs.declared.progress.Progress.{Progress}
-use Rattle.spmd_turns.proofs.TurnDeeds.{bounded}
-use Rattle.styled_turns.specs.StyledTurns.{StyledTurn, styled_deeds}
-use Rattle.styled_turns.specs.StyledLeft.{PassesPlainly}
-use Rattle.styled_turns.specs.declared.turns.NextOrPhase.TheVariants as Coming
-use Rattle.styled_turns.specs.declared.turns.StyledNext.{StyledNext}
-use Rattle.styled_turns.specs.declared.turns.StyledNext.TheVariants.{Post, Await, Signal, AwaitSignal, Work, Close, End}
+use Rattle.turns.specs.CounterTurns.{CounterTurn, awaits, begins, boundary_turns, posts, counter_deeds, works}
+use Rattle.turns.specs.CountersLeft.{counters_left}
+use Rattle.instance_runs.specs.declared.progress.Progress.{Progress}
+use Rattle.turns.proofs.CounterDeeds.{bounded}
+use Rattle.turns.specs.Turns.{Turn, turn_deeds}
+use Rattle.turns.specs.TurnsLeft.{PassesPlainly}
+use Rattle.turns.specs.declared.turns.NextOrPhase.TheVariants as Coming
+use Rattle.turns.specs.declared.turns.Next.{Next}
+use Rattle.turns.specs.declared.turns.Next.TheVariants.{Post, Await, Signal, AwaitSignal, Work, Close, End}
 use Rattle.fork_join.specs.Cursors.{ComesNext, IsCursor, IsSameCursor, cursor_left, cursor_turns}
 use Rattle.fork_join.specs.Joins.{HoldsOwn, IsSafe, all_deeds, begun, deeds_begun}
-use Rattle.fork_join.specs.Workers.{AreWaiting, HasBegun, IsAt, IsBeginning, IsWaiting, Runs, Stands, turns_begun}
+use Rattle.fork_join.specs.Workers.{AreBoundaryTurns, HasBegun, IsAt, IsBeginning, IsBoundaryTurn, Runs, Stands, turns_begun}
 use Rattle.fork_join.specs.declared.cursor.Cursor.{Cursor}
 use Rattle.fork_join.specs.declared.worker.Worker.{Worker}
 use Rattle.fork_join.proofs.Acts.{await_there, post_there}
@@ -31,26 +31,26 @@ use Rattle.fork_join.proofs.Shutting.{no_closing, plain_left, plain_none, rounds
 use Rattle.fork_join.proofs.Turning.{WaitsNext, begins_of, begun_runs, first_of, looked, no_work, phase_begins, phase_there, waited_runs, waiting_boundary, no_end}
 
 -- what stands first among posts and awaits in front of a beginning
-pub none_ahead : (bs rest : List Turn) (e f : ℕ) (ts : List Turn) → bs ++ begins e ∷ rest ≡ begins f ∷ ts → AreWaiting bs → bs ≡ []
+pub none_ahead : (bs rest : List CounterTurn) (e f : ℕ) (ts : List CounterTurn) → bs ++ begins e ∷ rest ≡ begins f ∷ ts → AreBoundaryTurns bs → bs ≡ []
 none_ahead [] rest e f ts is all = refl
-none_ahead (b ∷ bs) rest e f ts is all = absurd (subst IsWaiting (let k : b ≡ begins f = cc in k) all.0)
+none_ahead (b ∷ bs) rest e f ts is all = absurd (subst IsBoundaryTurn (let k : b ≡ begins f = cc in k) all.0)
 
-same_first : (t s : Turn) (ts ss : List Turn) → t ∷ ts ≡ s ∷ ss → t ≡ s
+same_first : (t s : CounterTurn) (ts ss : List CounterTurn) → t ∷ ts ≡ s ∷ ss → t ≡ s
 same_first t s ts ss is = cc
 
-first_turn : (t s : StyledTurn) (ts ss : List StyledTurn) → t ∷ ts ≡ s ∷ ss → t ≡ s
+first_turn : (t s : Turn) (ts ss : List Turn) → t ∷ ts ≡ s ∷ ss → t ≡ s
 first_turn t s ts ss is = cc
 
 -- a post or an await that comes next stands first in front of the beginning
-ahead_first : (bs rest : List Turn) (e : ℕ) (t : Turn) (ts more : List Turn) → bs ++ begins e ∷ rest ≡ t ∷ ts → ts ≡ more ++ begins e ∷ rest → IsWaiting t → AreWaiting bs → bs ≡ t ∷ more
-ahead_first [] rest e t ts more is split waits all = absurd (subst IsWaiting (let k : t ≡ begins e = cc in k) waits)
+ahead_first : (bs rest : List CounterTurn) (e : ℕ) (t : CounterTurn) (ts more : List CounterTurn) → bs ++ begins e ∷ rest ≡ t ∷ ts → ts ≡ more ++ begins e ∷ rest → IsBoundaryTurn t → AreBoundaryTurns bs → bs ≡ t ∷ more
+ahead_first [] rest e t ts more is split waits all = absurd (subst IsBoundaryTurn (let k : t ≡ begins e = cc in k) waits)
 ahead_first (b ∷ bs) rest e t ts more is split waits all =
     let first : b ≡ t = cc in
     let rests : bs ++ begins e ∷ rest ≡ ts = cc in
     ap (λ x. x ∷ bs) first ∙ ap (λ l. t ∷ l) (append_cancel_right bs more (begins e ∷ rest) (rests ∙ split))
 
 -- own cells hold the same behind it
-held_waiting : (tree : Tree) (plan : Plan) (safe : IsSafe tree plan) (p : ℕ) → p < plan.workers → (n : ℕ) (t : Turn) (rest : List Deed) (own : List ℤ) → IsWaiting t → HoldsOwn tree plan p own n → drop n (all_deeds tree plan p) ≡ turn_deeds tree t ++ rest → HoldsOwn tree plan p own (n + 1)
+held_waiting : (tree : Tree) (plan : Plan) (safe : IsSafe tree plan) (p : ℕ) → p < plan.workers → (n : ℕ) (t : CounterTurn) (rest : List Deed) (own : List ℤ) → IsBoundaryTurn t → HoldsOwn tree plan p own n → drop n (all_deeds tree plan p) ≡ counter_deeds tree t ++ rest → HoldsOwn tree plan p own (n + 1)
 held_waiting tree plan safe p below n (posts k) rest own waits holds is =
     holds_still tree plan p n own holds (post counter k) (post_there tree plan safe p n below counter k (next_get (all_deeds tree plan p) n (posting counter k) rest is)) refl
 held_waiting tree plan safe p below n (awaits on k) rest own waits holds is =
@@ -68,14 +68,14 @@ module _ (tree : Tree) (plan : Plan) (safe : IsSafe tree plan) (n p : ℕ) (belo
       record {
         ahead = boundary_turns (suc n - 1) does whom;
         waits = waiting_boundary (suc n - 1) does whom;
-        stands = subst (λ (l : List Turn). Stands tree plan p l w) (phase_begins tree plan p n v.0 v.1 v.2) at.stands;
+        stands = subst (λ (l : List CounterTurn). Stands tree plan p l w) (phase_begins tree plan p n v.0 v.1 v.2) at.stands;
         none = at.none;
         shut = at.shut;
         left = shut_deeds tree plan safe n p below w.turns r.program r.plan_is r.processor r.turns at.shut ∙ behind_is tree plan safe n v.0 v.1 v.2 p ∙ ap (λ l. l ++ deeds_begun tree plan n p) (sym (bounded tree (suc n - 1) does whom));
       }
 
   -- nothing but a post or an await comes next there, or the phase begins
-  pub only_waits : (w : Worker) (next : StyledNext) → IsBeginning tree plan n p w → ComesNext w.turns (Coming.Turn next) → (((x : ℕ) × (next ≡ Post x)) ⊎ ((x : ℕ) × (y : ℕ) × (next ≡ Await x y)) → ⊥) → ⊥
+  pub only_waits : (w : Worker) (next : Next) → IsBeginning tree plan n p w → ComesNext w.turns (Coming.Turn next) → (((x : ℕ) × (next ≡ Post x)) ⊎ ((x : ℕ) × (y : ℕ) × (next ≡ Await x y)) → ⊥) → ⊥
   only_waits w (Post x) b comes other = other (inl (x, refl))
   only_waits w (Await x y) b comes other = other (inr (x, y, refl))
   only_waits w (Signal x) b comes other = let lt = comes.1.1 in let all = rounds w.turns b.stands.runs.sound in absurd (omega (arith, lt, all))
@@ -90,7 +90,7 @@ module _ (tree : Tree) (plan : Plan) (safe : IsSafe tree plan) (n p : ℕ) (belo
   pub begun_here : (w : Worker) (b : IsBeginning tree plan n p w) → b.ahead ≡ [] → w.done.done ≡ begun tree plan n p
   begun_here w b none =
       let r = b.stands.runs in
-      let left = r.deeds ∙ b.left ∙ ap (λ l. flat_map (turn_deeds tree) l ++ deeds_begun tree plan n p) none in
+      let left = r.deeds ∙ b.left ∙ ap (λ l. flat_map (counter_deeds tree) l ++ deeds_begun tree plan n p) none in
       omega (arith, ap length left, length-drop w.done.done (all_deeds tree plan p), r.within, begun_is tree plan p n below)
 
 -- ---- another worker with the same parts
@@ -101,7 +101,7 @@ Key = Tree × (Plan × ℕ)
 abbrev pub key_of : Worker → Key
 key_of w = (tree_of w.program.now, (w.plan.now, w.processor))
 
-pub same_key : (tree : Tree) (plan : Plan) (p : ℕ) (left : List Turn) (w : Worker) → Stands tree plan p left w → ◌≡◌ {A = Key} (tree, (plan, p)) (key_of w)
+pub same_key : (tree : Tree) (plan : Plan) (p : ℕ) (left : List CounterTurn) (w : Worker) → Stands tree plan p left w → ◌≡◌ {A = Key} (tree, (plan, p)) (key_of w)
 same_key tree plan p left w s = λ i. (sym s.program i, (sym s.plan_is i, sym s.processor i))
 
 -- a worker whose cursor has looked
@@ -120,25 +120,25 @@ seen_beginning tree plan n p w d b sound left turns run = record {
   };
   none = b.none;
   shut = shut_same w.turns d b.shut left turns run;
-  left = ap (flat_map (styled_deeds tree plan p)) turns ∙ b.left;
+  left = ap (flat_map (turn_deeds tree plan p)) turns ∙ b.left;
 }
 
 -- past a post or an await
-pub passed_beginning : (tree : Tree) (plan : Plan) (safe : IsSafe tree plan) (n p : ℕ) → p < plan.workers → (w : Worker) (d : Cursor) (done : Progress) (next : StyledNext) → IsBeginning tree plan n p w → (s : WaitsNext tree plan p w.turns.turns next) → IsCursor d → w.turns.begins ≡ None → d.begins ≡ None → done.done ≡ w.done.done + 1 →
-    (u : StyledTurn) × (cursor_turns w.turns ≡ u ∷ cursor_turns d) → PassesPlainly w.turns.turns d.turns next → IsSameCursor w.turns d → IsBeginning tree plan n p (record w { turns = d; done = done })
+pub passed_beginning : (tree : Tree) (plan : Plan) (safe : IsSafe tree plan) (n p : ℕ) → p < plan.workers → (w : Worker) (d : Cursor) (done : Progress) (next : Next) → IsBeginning tree plan n p w → (s : WaitsNext tree plan p w.turns.turns next) → IsCursor d → w.turns.begins ≡ None → d.begins ≡ None → done.done ≡ w.done.done + 1 →
+    (u : Turn) × (cursor_turns w.turns ≡ u ∷ cursor_turns d) → PassesPlainly w.turns.turns d.turns next → IsSameCursor w.turns d → IsBeginning tree plan n p (record w { turns = d; done = done })
 passed_beginning tree plan safe n p below w d done next b s sound none none_then more passed plainly run =
-    let doing = flat_map (styled_deeds tree plan p) in
+    let doing = flat_map (turn_deeds tree plan p) in
     let tail = turns_begun tree plan n p in
     let went = s.passes d.turns plainly in
     let left_c : cursor_left w.turns ≡ s.plain ∷ cursor_left d =
-    plain_left w.turns none ∙ went.1 ∙ ap (λ t. t ∷ turns_left d.turns.turns) (sym (same_first s.plain went.0 s.rest (turns_left d.turns.turns) (sym s.left ∙ went.1))) ∙ ap (λ l. s.plain ∷ l) (sym (plain_left d none_then)) in
+    plain_left w.turns none ∙ went.1 ∙ ap (λ t. t ∷ counters_left d.turns.counters) (sym (same_first s.plain went.0 s.rest (counters_left d.turns.counters) (sym s.left ∙ went.1))) ∙ ap (λ l. s.plain ∷ l) (sym (plain_left d none_then)) in
     let turns_c : cursor_turns w.turns ≡ s.turn ∷ cursor_turns d = passed.1 ∙ ap (λ t. t ∷ cursor_turns d) (sym (first_turn s.turn passed.0 s.later (cursor_turns d) (sym s.turns ∙ passed.1))) in
     let f = first_of b.ahead tail (suc n) s.plain (cursor_left d) (sym b.stands.runs.turns ∙ left_c) s.waits b.waits in
     let ahead_is : b.ahead ≡ s.plain ∷ f.0 = ahead_first b.ahead tail (suc n) s.plain (cursor_left d) f.0 (sym b.stands.runs.turns ∙ left_c) f.2 s.waits b.waits in
     let runs = waited_runs tree plan p safe below (cursor_left d) s.plain s.turn w.done.done done.done w.turns d w.executor s.waits s.does more
-    (subst (λ (l : List Turn). Runs tree plan p l w.done.done w.turns w.executor) (sym b.stands.runs.turns ∙ left_c) b.stands.runs) sound left_c turns_c run in
-    let both : turn_deeds tree s.plain ++ doing (cursor_turns d) ≡ turn_deeds tree s.plain ++ (flat_map (turn_deeds tree) f.0 ++ deeds_begun tree plan n p) =
-    ap (λ l. l ++ doing (cursor_turns d)) (sym s.does) ∙ sym (ap doing turns_c) ∙ b.left ∙ ap (λ l. flat_map (turn_deeds tree) l ++ deeds_begun tree plan n p) ahead_is ∙ append_assoc (turn_deeds tree s.plain) (flat_map (turn_deeds tree) f.0) (deeds_begun tree plan n p) in
+    (subst (λ (l : List CounterTurn). Runs tree plan p l w.done.done w.turns w.executor) (sym b.stands.runs.turns ∙ left_c) b.stands.runs) sound left_c turns_c run in
+    let both : counter_deeds tree s.plain ++ doing (cursor_turns d) ≡ counter_deeds tree s.plain ++ (flat_map (counter_deeds tree) f.0 ++ deeds_begun tree plan n p) =
+    ap (λ l. l ++ doing (cursor_turns d)) (sym s.does) ∙ sym (ap doing turns_c) ∙ b.left ∙ ap (λ l. flat_map (counter_deeds tree) l ++ deeds_begun tree plan n p) ahead_is ∙ append_assoc (counter_deeds tree s.plain) (flat_map (counter_deeds tree) f.0) (deeds_begun tree plan n p) in
     record {
       ahead = f.0;
       waits = f.1;
@@ -146,14 +146,14 @@ passed_beginning tree plan safe n p below w d done next b s sound none none_then
         program = b.stands.program;
         plan_is = b.stands.plan_is;
         processor = b.stands.processor;
-        runs = subst (λ (l : List Turn). Runs tree plan p l done.done d w.executor) f.2 runs;
+        runs = subst (λ (l : List CounterTurn). Runs tree plan p l done.done d w.executor) f.2 runs;
         kept = b.stands.kept;
         cells = b.stands.cells;
         holds = subst (HoldsOwn tree plan p w.own) (sym more) (held_waiting tree plan safe p below w.done.done s.plain (doing (cursor_turns d)) w.own s.waits b.stands.holds (b.stands.runs.deeds ∙ ap doing turns_c ∙ ap (λ l. l ++ doing (cursor_turns d)) s.does));
       };
       none = b.none;
       shut = shut_passed w.turns d s.plain s.turn b.shut s.waits left_c turns_c run;
-      left = append_cancel_left (turn_deeds tree s.plain) (doing (cursor_turns d)) (flat_map (turn_deeds tree) f.0 ++ deeds_begun tree plan n p) both;
+      left = append_cancel_left (counter_deeds tree s.plain) (doing (cursor_turns d)) (flat_map (counter_deeds tree) f.0 ++ deeds_begun tree plan n p) both;
     }
 
 -- past the beginning
@@ -173,8 +173,8 @@ module _ (tree : Tree) (plan : Plan) (safe : IsSafe tree plan) (n p : ℕ) (belo
           program = b.stands.program;
           plan_is = b.stands.plan_is;
           processor = b.stands.processor;
-          runs = subst (λ (l : List Turn). Runs tree plan p l w.done.done d w.executor) rest_is
-              (begun_runs tree plan p (cursor_left d) e w.done.done w.turns d w.executor (subst (λ (l : List Turn). Runs tree plan p l w.done.done w.turns w.executor) ahead_is b.stands.runs) sound (begins e, left) turns run);
+          runs = subst (λ (l : List CounterTurn). Runs tree plan p l w.done.done d w.executor) rest_is
+              (begun_runs tree plan p (cursor_left d) e w.done.done w.turns d w.executor (subst (λ (l : List CounterTurn). Runs tree plan p l w.done.done w.turns w.executor) ahead_is b.stands.runs) sound (begins e, left) turns run);
           kept = b.stands.kept;
           cells = b.stands.cells;
           holds = b.stands.holds;

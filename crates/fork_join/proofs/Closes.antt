@@ -13,14 +13,14 @@ use Rattle.own_cells.specs.declared.cells.OwnCells.{OwnCells}
 use Rattle.spmd_model.specs.Cells.{plus}
 use Rattle.spmd_model.specs.Deeds.{Deed}
 use Rattle.spmd_model.specs.MachineDeeds.{keeping_deeds, totalling_deeds}
-use Rattle.spmd_turns.specs.declared.progress.Progress.{Progress}
-use Rattle.spmd_turns.specs.declared.execute.Executor.{Executor}
-use Rattle.styled_turns.specs.StyledTurns.{StyledTurn, closes, scalar_at, styled_deeds}
-use Rattle.styled_turns.specs.StyledLeft.{PassesPlainly, styled_own, styled_place}
-use Rattle.styled_turns.specs.declared.turns.NextOrPhase.{NextOrPhase}
-use Rattle.styled_turns.specs.declared.turns.NextOrPhase.TheVariants as Coming
-use Rattle.styled_turns.specs.declared.turns.StyledNext.TheVariants.{Close}
-use Rattle.styled_turns.proofs.OwnPlaces.{not_small, scalar_below, shared_there}
+use Rattle.instance_runs.specs.declared.progress.Progress.{Progress}
+use Rattle.instance_runs.specs.declared.execute.Executor.{Executor}
+use Rattle.turns.specs.Turns.{Turn, closes, scalar_at, turn_deeds}
+use Rattle.turns.specs.TurnsLeft.{PassesPlainly, turns_own, turns_place}
+use Rattle.turns.specs.declared.turns.NextOrPhase.{NextOrPhase}
+use Rattle.turns.specs.declared.turns.NextOrPhase.TheVariants as Coming
+use Rattle.turns.specs.declared.turns.Next.TheVariants.{Close}
+use Rattle.turns.proofs.OwnPlaces.{not_small, scalar_below, shared_there}
 use Rattle.fork_join.specs.Cursors.{ComesNext, IsCursor, IsSameCursor, IsShut, cursor_left, cursor_plan, cursor_tree, cursor_turns}
 use Rattle.fork_join.specs.Joins.{IsSafe, all_deeds, joined, own_place, protocol, put}
 use Rattle.fork_join.specs.Workers.{IsAt, IsClosing, Runs, turns_behind}
@@ -32,7 +32,7 @@ use Rattle.fork_join.proofs.Shutting.{plain_left, shut_by, shut_place}
 use Rattle.fork_join.proofs.Turning.{looked}
 use Rattle.fork_join.proofs.Walking.{no_work_behind}
 
-same_later : (t s : StyledTurn) (ts ss : List StyledTurn) → t ∷ ts ≡ s ∷ ss → ts ≡ ss
+same_later : (t s : Turn) (ts ss : List Turn) → t ∷ ts ≡ s ∷ ss → ts ≡ ss
 same_later t s ts ss is = cc
 
 module _ {tree : Tree} {plan : Plan} {n p : ℕ} {memory : List ℤ} {w : Worker} (closing : IsClosing tree plan n p memory w) (k : ℕ) (comes : ComesNext w.turns (Coming.Turn (Close k))) where
@@ -41,10 +41,10 @@ module _ {tree : Tree} {plan : Plan} {n p : ℕ} {memory : List ℤ} {w : Worker
 
   -- the cell that all share
   abbrev pub to : ℕ
-  to = first_cell tree (scalar_at (own_loop tree plan (styled_place w.turns.turns)) k)
+  to = first_cell tree (scalar_at (own_loop tree plan (turns_place w.turns.turns)) k)
 
   abbrev there : ℕ
-  there = first_cell (cursor_tree w.turns) (scalar_at (own_loop (cursor_tree w.turns) (cursor_plan w.turns) (styled_place w.turns.turns)) k)
+  there = first_cell (cursor_tree w.turns) (scalar_at (own_loop (cursor_tree w.turns) (cursor_plan w.turns) (turns_place w.turns.turns)) k)
 
   abbrev Both : Type 0
   Both = Tree × Plan
@@ -53,18 +53,18 @@ module _ {tree : Tree} {plan : Plan} {n p : ℕ} {memory : List ℤ} {w : Worker
   both_is = λ i. (closing.stands.runs.program i, closing.stands.runs.plan_is i)
 
   there_is : there ≡ to
-  there_is = ap (λ (z : Both). first_cell z.0 (scalar_at (own_loop z.0 z.1 (styled_place w.turns.turns)) k)) both_is
+  there_is = ap (λ (z : Both). first_cell z.0 (scalar_at (own_loop z.0 z.1 (turns_place w.turns.turns)) k)) both_is
 
-  pub cell_there : (own : OwnCells) → own ≡ styled_own w.turns.turns → shared_cell own k ≡ Some to
+  pub cell_there : (own : OwnCells) → own ≡ turns_own w.turns.turns → shared_cell own k ≡ Some to
   cell_there own is = ap (λ (o : OwnCells). shared_cell o k) is ∙ shared_there w.turns.turns closing.stands.runs.sound.sound k comes.1.1 ∙ ap (λ x. Some x) there_is
 
-  pub cell_is : (own : OwnCells) (x : ℕ) → own ≡ styled_own w.turns.turns → shared_cell own k ≡ Some x → x ≡ to
+  pub cell_is : (own : OwnCells) (x : ℕ) → own ≡ turns_own w.turns.turns → shared_cell own k ≡ Some x → x ≡ to
   cell_is own x is at = let both : Some x ≡ Some to = sym at ∙ cell_there own is in cc
 
   to_below : to < cell_count tree
-  to_below = subst (λ (z : Both). first_cell z.0 (scalar_at (own_loop z.0 z.1 (styled_place w.turns.turns)) k) < cell_count z.0) both_is (scalar_below w.turns.turns closing.stands.runs.sound.sound k comes.1.1)
+  to_below = subst (λ (z : Both). first_cell z.0 (scalar_at (own_loop z.0 z.1 (turns_place w.turns.turns)) k) < cell_count z.0) both_is (scalar_below w.turns.turns closing.stands.runs.sound.sound k comes.1.1)
 
-  pub cell_inside : IsSafe tree plan → (own : OwnCells) (x : ℕ) → own ≡ styled_own w.turns.turns → shared_cell own k ≡ Some x → x < length memory
+  pub cell_inside : IsSafe tree plan → (own : OwnCells) (x : ℕ) → own ≡ turns_own w.turns.turns → shared_cell own k ≡ Some x → x < length memory
   cell_inside safe own x is at =
       let cell = cell_is own x is at in
       let below = to_below in
@@ -73,11 +73,11 @@ module _ {tree : Tree} {plan : Plan} {n p : ℕ} {memory : List ℤ} {w : Worker
 
   -- what is left behind the closing
   rest : List Deed
-  rest = flat_map (styled_deeds tree plan p) comes.1.0.0
+  rest = flat_map (turn_deeds tree plan p) comes.1.0.0
 
-  first_deeds : drop w.done.done (all_deeds tree plan p) ≡ styled_deeds tree plan p (closes (styled_place w.turns.turns) k) ++ rest
+  first_deeds : drop w.done.done (all_deeds tree plan p) ≡ turn_deeds tree plan p (closes (turns_place w.turns.turns) k) ++ rest
   unfolding rest
-  first_deeds = closing.stands.runs.deeds ∙ ap (flat_map (styled_deeds tree plan p)) comes.1.0.1
+  first_deeds = closing.stands.runs.deeds ∙ ap (flat_map (turn_deeds tree plan p)) comes.1.0.1
 
   keeping : nat_le 16 k ≡ false → drop w.done.done (all_deeds tree plan p) ≡ keeping_deeds (own_place tree p k) to ++ rest
   keeping is = first_deeds ∙ ap (λ b. (if b then keeping_deeds (own_place tree p k) to else totalling_deeds (own_place tree p k) to) ++ rest) (lt-ltb k 16 (leb-false 16 k is))
@@ -85,9 +85,9 @@ module _ {tree : Tree} {plan : Plan} {n p : ℕ} {memory : List ℤ} {w : Worker
   totalling : nat_le 16 k ≡ true → drop w.done.done (all_deeds tree plan p) ≡ totalling_deeds (own_place tree p k) to ++ rest
   totalling is = first_deeds ∙ ap (λ b. (if b then keeping_deeds (own_place tree p k) to else totalling_deeds (own_place tree p k) to) ++ rest) (not_small k (leb-true 16 k is))
 
-  module _ (d : Cursor) (none : d.begins ≡ None) (passed : (u : StyledTurn) × (cursor_turns w.turns ≡ u ∷ cursor_turns d)) where
+  module _ (d : Cursor) (none : d.begins ≡ None) (passed : (u : Turn) × (cursor_turns w.turns ≡ u ∷ cursor_turns d)) where
     pub nearer : length (cursor_turns d) < length (cursor_turns w.turns)
-    nearer = omega (arith, ap (λ (l : List StyledTurn). length l) passed.1)
+    nearer = omega (arith, ap (λ (l : List Turn). length l) passed.1)
 
     -- the worker behind it
     module _ (sound : IsCursor d) (plainly : PassesPlainly w.turns.turns d.turns (Close k)) (run : IsSameCursor w.turns d) where
@@ -95,7 +95,7 @@ module _ {tree : Tree} {plan : Plan} {n p : ℕ} {memory : List ℤ} {w : Worker
       unfolding rest
       closed_runs own done closed =
           let r = closing.stands.runs in
-          let later : comes.1.0.0 ≡ cursor_turns d = same_later (closes (styled_place w.turns.turns) k) passed.0 comes.1.0.0 (cursor_turns d) (sym comes.1.0.1 ∙ passed.1) in
+          let later : comes.1.0.0 ≡ cursor_turns d = same_later (closes (turns_place w.turns.turns) k) passed.0 comes.1.0.0 (cursor_turns d) (sym comes.1.0.1 ∙ passed.1) in
           record {
             sound = sound;
             program = run.program ∙ r.program;
@@ -104,7 +104,7 @@ module _ {tree : Tree} {plan : Plan} {n p : ℕ} {memory : List ℤ} {w : Worker
             turns = plain_left d none ∙ plainly ∙ sym (plain_left w.turns comes.0) ∙ r.turns;
             inside = r.inside;
             there = r.there;
-            deeds = closed.left ∙ ap (flat_map (styled_deeds tree plan p)) later;
+            deeds = closed.left ∙ ap (flat_map (turn_deeds tree plan p)) later;
             within = closed.within;
             idle = closed.idle;
             can = r.can;

@@ -29,12 +29,12 @@ use Rattle.nest_walk.specs.contracts.instances.Instances as Instances
 use Rattle.nest_walk.specs.contracts.table.CellTable as CellTable
 use Rattle.owner_partition.specs.contracts.phases.PhaseCursor as PhaseCursor
 use Rattle.sync_plan.specs.contracts.plan.Plan as Plan
-use Rattle.spmd_turns.specs.contracts.turns.Turns as Turns
-use Rattle.spmd_turns.specs.contracts.execute.Executor as Executor
-use Rattle.spmd_turns.proofs.progress.Progress.TheSendSync as progress
+use Rattle.turns.specs.contracts.counters.CounterTurns as CounterTurns
+use Rattle.instance_runs.specs.contracts.execute.Executor as Executor
+use Rattle.instance_runs.proofs.progress.Progress.TheSendSync as progress
 use Rattle.own_cells.proofs.cells.OwnCells.TheSendSync as own_cells
 use Rattle.spmd_model.proofs.style.Style.TheSendSync as style
-use Rattle.styled_turns.specs.contracts.turns.StyledTurns as StyledTurns
+use Rattle.turns.specs.contracts.turns.Turns as Turns
 use Rattle.fork_join.specs.contracts.cursor.Cursor as Cursors
 use Rattle.fork_join.specs.contracts.stores.Stores as Stores
 use Rattle.fork_join.specs.contracts.worker.Worker as Worker
@@ -89,9 +89,9 @@ Instances-field-send a = struct_send (shape (Instances.the_type a)) (Walk-field-
 PhaseCursor-field-send : (a : NamedLft) → IsSend (PhaseCursor.the_field a).row
 PhaseCursor-field-send a = struct_send (shape (PhaseCursor.the_type a)) (Walk-field-send a, (search (sendable, crosses) depth 20, (search (sendable, crosses, Stop-send) depth 20, tt)))
 
-pub Turns-field-send : (a : NamedLft) → IsSend (Turns.the_field a).row
-Turns-field-send a =
-    struct_send (shape (Turns.the_type a)) (
+pub CounterTurns-field-send : (a : NamedLft) → IsSend (CounterTurns.the_field a).row
+CounterTurns-field-send a =
+    struct_send (shape (CounterTurns.the_type a)) (
       search (sendable, crosses, Program-sync) depth 20,
       (
         search (sendable, crosses, Plan-sync) depth 20,
@@ -111,10 +111,10 @@ Turns-field-send a =
 pub Executor-field-send : (a : NamedLft) → IsSend (Executor.the_field a).row
 Executor-field-send a = let p = Program-sync in let t = CellTable-sync in search (sendable, crosses, codes.the_field_send, line.the_send, line.the_field_send) depth 20
 
-pub StyledTurns-field-send : (a : NamedLft) → IsSend (StyledTurns.the_field a).row
-StyledTurns-field-send a =
+pub Turns-field-send : (a : NamedLft) → IsSend (Turns.the_field a).row
+Turns-field-send a =
     let n = Nest-sync in
-    struct_send (shape (StyledTurns.the_type a)) (
+    struct_send (shape (Turns.the_type a)) (
       search (sendable, crosses, Program-sync) depth 20,
       (
         search (sendable, crosses, Plan-sync) depth 20,
@@ -123,7 +123,7 @@ StyledTurns-field-send a =
           (
             style.the_field_send,
             (
-              Turns-field-send a,
+              CounterTurns-field-send a,
               (
                 search (sendable, crosses) depth 20,
                 (
@@ -150,7 +150,7 @@ StyledTurns-field-send a =
     )
 
 Cursor-field-send : (a : NamedLft) → IsSend (Cursors.the_field a).row
-Cursor-field-send a = struct_send (shape (Cursors.the_type a)) (StyledTurns-field-send a, (search (sendable, crosses) depth 20, tt))
+Cursor-field-send a = struct_send (shape (Cursors.the_type a)) (Turns-field-send a, (search (sendable, crosses) depth 20, tt))
 
 Stores-field-send : IsSend (Stores.the_field).row
 Stores-field-send = search (sendable, crosses) depth 20

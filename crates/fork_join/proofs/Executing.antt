@@ -17,19 +17,19 @@ use Rattle.spmd_model.specs.Deeds.{Deed, instance_deeds}
 use Rattle.spmd_model.specs.MachineDeeds.{HasNoOwn, own_deeds}
 use Rattle.spmd_model.specs.declared.style.Style.TheVariants.{Arrive}
 use Rattle.spmd_model.specs.PlanProtocols.{printed_by, registers_by}
-use Rattle.spmd_turns.specs.Executors.{Begins, CanExecute, executor_output, executor_room, executor_tree}
-use Rattle.spmd_turns.specs.Rooms.{turn_room, visit_room}
-use Rattle.spmd_turns.specs.Turns.{Turn, is_turn_inside, works}
-use Rattle.spmd_turns.specs.TurnsLeft.{turns_left}
-use Rattle.spmd_turns.specs.declared.execute.Executor.{Executor}
-use Rattle.styled_turns.specs.StyledTurns.{StyledTurn, runs, styled_deeds}
-use Rattle.styled_turns.specs.StyledLeft.{PassesPlainly, styled_place}
-use Rattle.styled_turns.specs.declared.turns.NextOrPhase.TheVariants as Coming
-use Rattle.styled_turns.specs.declared.turns.StyledNext.TheVariants as Next
+use Rattle.instance_runs.specs.Executors.{Begins, CanExecute, executor_output, executor_room, executor_tree}
+use Rattle.instance_runs.specs.Rooms.{visit_room}
+use Rattle.turns.specs.CounterTurns.{counter_room, CounterTurn, is_counter_inside, works}
+use Rattle.turns.specs.CountersLeft.{counters_left}
+use Rattle.instance_runs.specs.declared.execute.Executor.{Executor}
+use Rattle.turns.specs.Turns.{Turn, runs, turn_deeds}
+use Rattle.turns.specs.TurnsLeft.{PassesPlainly, turns_place}
+use Rattle.turns.specs.declared.turns.NextOrPhase.TheVariants as Coming
+use Rattle.turns.specs.declared.turns.Next.TheVariants as Nexts
 use Rattle.fork_join.specs.Cursors.{ComesNext, IsCursor, IsSameCursor, cursor_left, cursor_turns}
 use Rattle.fork_join.specs.Joins.{all_deeds}
 use Rattle.fork_join.specs.SeenDeeds.{phase_deed, shared_deed}
-use Rattle.fork_join.specs.Workers.{HasExecuted, IsTurnThere, IsWalking, Runs, turns_behind}
+use Rattle.fork_join.specs.Workers.{HasExecuted, IsCounterThere, IsWalking, Runs, turns_behind}
 use Rattle.fork_join.specs.declared.cursor.Cursor.{Cursor}
 use Rattle.fork_join.proofs.SeenDeeds.{phase_instances, plain_instances}
 use Rattle.fork_join.proofs.Shutting.{plain_left}
@@ -41,17 +41,17 @@ module _ (tree : Tree) (plan : Plan) (n p done : ℕ) (left : List Instance) (c 
   i = h.at.instance
 
   abbrev place : ℕ
-  place = styled_place c.turns
+  place = turns_place c.turns
 
   doing : List Deed
-  doing = flat_map (styled_deeds tree plan p) h.later
+  doing = flat_map (turn_deeds tree plan p) h.later
 
   there : All (λ j. All (λ k. k < cell_count tree) (cells_of tree j)) (i ∷ [])
   there = All-cons (λ j. All (λ k. k < cell_count tree) (cells_of tree j)) i [] h.there (All-nil (λ j. All (λ k. k < cell_count tree) (cells_of tree j)))
 
   one_gone : drop done (all_deeds tree plan p) ≡ flat_map (own_deeds tree (own_of tree plan place) p) (i ∷ []) ++ doing
   unfolding doing
-  one_gone = h.gone ∙ ap (λ l. l ++ flat_map (styled_deeds tree plan p) h.later) (sym (append-nil (own_deeds tree (own_of tree plan place) p i)))
+  one_gone = h.gone ∙ ap (λ l. l ++ flat_map (turn_deeds tree plan p) h.later) (sym (append-nil (own_deeds tree (own_of tree plan place) p i)))
 
   one_instance : (rest : List Deed) → flat_map (instance_deeds tree) (i ∷ []) ++ rest ≡ instance_deeds (executor_tree x) i ++ rest
   one_instance rest = ap (λ l. l ++ rest) (append-nil (instance_deeds tree i)) ∙ ap (λ t. instance_deeds t i ++ rest) (sym is_tree)
@@ -64,10 +64,10 @@ module _ (tree : Tree) (plan : Plan) (n p done : ℕ) (left : List Instance) (c 
     begins_seen : Begins (executor_tree x) rounds stop (map seen (drop done (all_deeds tree plan p)))
     begins_seen = record { at = h.at; inside = h.inside; rest = map seen doing; is = seen_is }
 
-    left_seen : (after : ℕ) → after ≤ length (all_deeds tree plan p) → map seen (drop after (all_deeds tree plan p)) ≡ map seen doing → drop after (all_deeds tree plan p) ≡ flat_map (styled_deeds tree plan p) h.later
+    left_seen : (after : ℕ) → after ≤ length (all_deeds tree plan p) → map seen (drop after (all_deeds tree plan p)) ≡ map seen doing → drop after (all_deeds tree plan p) ≡ flat_map (turn_deeds tree plan p) h.later
     unfolding doing
     left_seen after within now =
-        seen_exactly seen (all_deeds tree plan p) (flat_map (own_deeds tree (own_of tree plan place) p) (i ∷ [])) (flat_map (styled_deeds tree plan p) h.later) (instance_deeds (executor_tree x) i) done after one_gone within seen_is
+        seen_exactly seen (all_deeds tree plan p) (flat_map (own_deeds tree (own_of tree plan place) p) (i ∷ [])) (flat_map (turn_deeds tree plan p) h.later) (instance_deeds (executor_tree x) i) done after one_gone within seen_is
         (seen_is ∙ ap (λ l. instance_deeds (executor_tree x) i ++ l) (sym now))
 
   -- in a phase without own scalars
@@ -78,7 +78,7 @@ module _ (tree : Tree) (plan : Plan) (n p done : ℕ) (left : List Instance) (c 
     pub begins_plain : Begins (executor_tree x) rounds stop (map (shared_deed tree) (drop done (all_deeds tree plan p)))
     begins_plain = begins_seen (shared_deed tree) plain_shown
 
-    pub left_plain : (after : ℕ) → after ≤ length (all_deeds tree plan p) → map (shared_deed tree) (drop after (all_deeds tree plan p)) ≡ begins_plain.rest → drop after (all_deeds tree plan p) ≡ flat_map (styled_deeds tree plan p) h.later
+    pub left_plain : (after : ℕ) → after ≤ length (all_deeds tree plan p) → map (shared_deed tree) (drop after (all_deeds tree plan p)) ≡ begins_plain.rest → drop after (all_deeds tree plan p) ≡ flat_map (turn_deeds tree plan p) h.later
     unfolding begins_plain begins_seen
     left_plain after within now = left_seen (shared_deed tree) plain_shown after within now
 
@@ -90,19 +90,19 @@ module _ (tree : Tree) (plan : Plan) (n p done : ℕ) (left : List Instance) (c 
     pub begins_own : Begins (executor_tree x) rounds stop (map (phase_deed tree plan place p) (drop done (all_deeds tree plan p)))
     begins_own = begins_seen (phase_deed tree plan place p) own_shown
 
-    pub left_own : (after : ℕ) → after ≤ length (all_deeds tree plan p) → map (phase_deed tree plan place p) (drop after (all_deeds tree plan p)) ≡ begins_own.rest → drop after (all_deeds tree plan p) ≡ flat_map (styled_deeds tree plan p) h.later
+    pub left_own : (after : ℕ) → after ≤ length (all_deeds tree plan p) → map (phase_deed tree plan place p) (drop after (all_deeds tree plan p)) ≡ begins_own.rest → drop after (all_deeds tree plan p) ≡ flat_map (turn_deeds tree plan p) h.later
     unfolding begins_own begins_seen
     left_own after within now = left_seen (phase_deed tree plan place p) own_shown after within now
 
   -- it is done
-  pub executed : (after : ℕ) (y : Executor) → drop after (all_deeds tree plan p) ≡ flat_map (styled_deeds tree plan p) h.later → after ≤ length (all_deeds tree plan p) → registers_by Arrive tree plan p after ≡ [] → CanExecute y → executor_tree y ≡ tree →
+  pub executed : (after : ℕ) (y : Executor) → drop after (all_deeds tree plan p) ≡ flat_map (turn_deeds tree plan p) h.later → after ≤ length (all_deeds tree plan p) → registers_by Arrive tree plan p after ≡ [] → CanExecute y → executor_tree y ≡ tree →
       executor_output y ≡ printed_by Arrive tree plan p after → executor_room x ≤ executor_room y → length (executor_output y) ≤ length (executor_output x) + visit_room (executor_tree x) (visit_at (executor_tree x) rounds stop) →
       length (executor_output x) + visit_room (executor_tree x) (visit_at (executor_tree x) rounds stop) ≤ executor_room x → HasExecuted tree plan p done after c x y
   executed after y left within idle can same output wider grown room = record {
     first = λ t rest e.
         let both : runs place i ∷ h.later ≡ t ∷ rest = sym h.turns ∙ e in
         let rests : h.later ≡ rest = cc in
-        left ∙ ap (flat_map (styled_deeds tree plan p)) rests;
+        left ∙ ap (flat_map (turn_deeds tree plan p)) rests;
     within = within;
     idle = idle;
     can = can;
@@ -113,31 +113,31 @@ module _ (tree : Tree) (plan : Plan) (n p done : ℕ) (left : List Instance) (c 
     grown = λ t rest e.
         let both : works i ∷ h.rest ≡ t ∷ rest = sym h.is ∙ e in
         let first : works i ≡ t = cc in
-        let space = ap (turn_room tree) first in
+        let space = ap (counter_room tree) first in
         let here = h.room in
         omega (arith, grown, space, here);
   }
 
 -- past an instance that is done
-pub next_walks : (tree : Tree) (plan : Plan) (n p done after : ℕ) (left : List Instance) (d e : Cursor) (x y : Executor) (stop : Stop) → Runs tree plan p (map works left ++ turns_behind tree plan (suc n) p) done d x → ComesNext d (Coming.Turn (Next.Work stop)) → HasExecuted tree plan p done after d x y → IsCursor e → e.begins ≡ None →
-    (t : StyledTurn) × (cursor_turns d ≡ t ∷ cursor_turns e) → PassesPlainly d.turns e.turns (Next.Work stop) → IsSameCursor d e → IsWalking tree plan n p after e y × (length (cursor_left e) < length (cursor_left d))
+pub next_walks : (tree : Tree) (plan : Plan) (n p done after : ℕ) (left : List Instance) (d e : Cursor) (x y : Executor) (stop : Stop) → Runs tree plan p (map works left ++ turns_behind tree plan (suc n) p) done d x → ComesNext d (Coming.Turn (Nexts.Work stop)) → HasExecuted tree plan p done after d x y → IsCursor e → e.begins ≡ None →
+    (t : Turn) × (cursor_turns d ≡ t ∷ cursor_turns e) → PassesPlainly d.turns e.turns (Nexts.Work stop) → IsSameCursor d e → IsWalking tree plan n p after e y × (length (cursor_left e) < length (cursor_left d))
 next_walks tree plan n p done after left d e x y stop r comes did sound none passed plainly run =
     let plain = comes.1.2.next in
     let i = plain.0.instance in
-    let rests : plain.1 ≡ turns_left e.turns.turns = tails (works i) plainly.0 plain.1 (turns_left e.turns.turns) (sym plain.2 ∙ plainly.1) in
+    let rests : plain.1 ≡ counters_left e.turns.counters = tails (works i) plainly.0 plain.1 (counters_left e.turns.counters) (sym plain.2 ∙ plainly.1) in
     let left_d : cursor_left d ≡ works i ∷ cursor_left e = plain_left d comes.0 ∙ plain.2 ∙ ap (λ l. works i ∷ l) (rests ∙ sym (plain_left e none)) in
     let tail = turns_behind tree plan (suc n) p in
     let rest = cursor_left e in
     let stands : map works left ++ tail ≡ map works (i ∷ []) ++ rest = sym r.turns ∙ left_d in
     let cut = cut_off left (i ∷ []) tail rest (no_work_behind tree plan p (suc n)) stands in
-    let all = insides tree (i ∷ []) rest (subst (λ (l : List Turn). list_all (is_turn_inside tree) l ≡ true) stands r.inside) in
-    let cells = theirs tree (i ∷ []) rest (subst (All (IsTurnThere tree)) stands r.there) in
+    let all = insides tree (i ∷ []) rest (subst (λ (l : List CounterTurn). list_all (is_counter_inside tree) l ≡ true) stands r.inside) in
+    let cells = theirs tree (i ∷ []) rest (subst (All (IsCounterThere tree)) stands r.there) in
     let runs = went_on tree plan p (map works left ++ tail) done after d e x y r sound run rest refl all.1 cells.1 (did.first passed.0 (cursor_turns e) passed.1) did.within did.idle did.can did.executor did.output did.fits
     (λ first.
     let most = r.room first in
-    let sums = ap (sum_by (turn_room tree)) stands in
-    let one = sum_by-cons (turn_room tree) (works i) rest in
+    let sums = ap (sum_by (counter_room tree)) stands in
+    let one = sum_by-cons (counter_room tree) (works i) rest in
     let grown = did.grown (works i) rest left_d in
     let wider = did.wider in
     omega (arith, most, sums, one, grown, wider)) in
-    (record { left = cut.0; runs = subst (λ (l : List Turn). Runs tree plan p l after e y) cut.2 runs }, omega (arith, ap (λ (l : List Turn). length l) left_d))
+    (record { left = cut.0; runs = subst (λ (l : List CounterTurn). Runs tree plan p l after e y) cut.2 runs }, omega (arith, ap (λ (l : List CounterTurn). length l) left_d))

@@ -8,7 +8,7 @@ use Rattle.std.proofs.lemmas.List.Folds.{list_any-append}
 use Rattle.std.proofs.lemmas.List.FromFn.{length-range_with_len}
 use Rattle.std.proofs.lemmas.List.Sums.{fold-append, sum_by-cons, sum_by-set}
 use Rattle.nest_model.specs.Memory.{cell_value}
-use Rattle.spmd_turns.proofs.LoadLists.{range_more}
+use Rattle.instance_runs.proofs.LoadLists.{range_more}
 use Rattle.fork_join.specs.Overlays.{AreMarked, is_among, is_marked, laid_in, stores_to, stretched, unmarked}
 
 pub laid-append : (xs ys : List (ℕ × ℤ)) (memory : List ℤ) → laid_in (xs ++ ys) memory ≡ laid_in ys (laid_in xs memory)

@@ -8,10 +8,10 @@ use Rattle.sync_plan.specs.Own.{OwnLoop, own_cell, own_loop, own_of}
 use Rattle.sync_plan.specs.declared.plan.Plan.{Plan}
 use Rattle.own_cells.specs.OwnCells.{AreFew, AreOwnCells}
 use Rattle.own_cells.specs.declared.cells.OwnCells.{OwnCells}
-use Rattle.styled_turns.specs.StyledLeft.{styled_own, styled_place}
+use Rattle.turns.specs.TurnsLeft.{turns_own, turns_place}
 use Rattle.spmd_model.specs.MachineDeeds.{HasNoOwn}
-use Rattle.spmd_turns.specs.Turns.{Turn}
-use Rattle.spmd_turns.specs.declared.execute.Executor.{Executor}
+use Rattle.turns.specs.CounterTurns.{CounterTurn}
+use Rattle.instance_runs.specs.declared.execute.Executor.{Executor}
 use Rattle.spmd_model.specs.Deeds.{Deed, loading, printing, storing}
 use Rattle.fork_join.specs.Cursors.{cursor_plan, cursor_tree}
 use Rattle.fork_join.specs.Joins.{own_place}
@@ -33,28 +33,28 @@ module _ (tree : Tree) (plan : Plan) (c : Cursor) where
   both_is : IsCursorOf tree plan c → ◌≡◌ {A = Both} (cursor_tree c, cursor_plan c) (tree, plan)
   both_is k = λ i. (k.program i, k.plan_is i)
 
-  pub few_here : IsCursorOf tree plan c → AreFew tree (own_loop tree plan (styled_place c.turns))
-  few_here k = subst (λ (z : Both). AreFew z.0 (own_loop z.0 z.1 (styled_place c.turns))) (both_is k) k.sound.own.few
+  pub few_here : IsCursorOf tree plan c → AreFew tree (own_loop tree plan (turns_place c.turns))
+  few_here k = subst (λ (z : Both). AreFew z.0 (own_loop z.0 z.1 (turns_place c.turns))) (both_is k) k.sound.own.few
 
   -- a phase where none is found has none
-  pub none_found : IsCursorOf tree plan c → (own : OwnCells) → own ≡ styled_own c.turns → ((tr : Tree) → (lo : OwnLoop) → AreOwnCells tr lo own → (lo.privates ≡ []) × (lo.sums ≡ [])) → HasNoOwn tree plan (styled_place c.turns)
+  pub none_found : IsCursorOf tree plan c → (own : OwnCells) → own ≡ turns_own c.turns → ((tr : Tree) → (lo : OwnLoop) → AreOwnCells tr lo own → (lo.privates ≡ []) × (lo.sums ≡ [])) → HasNoOwn tree plan (turns_place c.turns)
   none_found k own is found =
-      let cells = subst (AreOwnCells tree (own_loop tree plan (styled_place c.turns))) (sym is) (subst (λ (z : Both). AreOwnCells z.0 (own_loop z.0 z.1 (styled_place c.turns)) (styled_own c.turns)) (both_is k) k.sound.own.cells) in
-      let none = found tree (own_loop tree plan (styled_place c.turns)) cells in
+      let cells = subst (AreOwnCells tree (own_loop tree plan (turns_place c.turns))) (sym is) (subst (λ (z : Both). AreOwnCells z.0 (own_loop z.0 z.1 (turns_place c.turns)) (turns_own c.turns)) (both_is k) k.sound.own.cells) in
+      let none = found tree (own_loop tree plan (turns_place c.turns)) cells in
       record { privates = none.0; sums = none.1 }
 
   module _ (t : ∥ IsCursorOf tree plan c ∥₁) (cell : ℕ) where
     -- the slot that is found for a cell is its own
-    pub slot_found : (own : OwnCells) (o : Option ℕ) → own ≡ styled_own c.turns → ((tr : Tree) → (pl : Plan) → (place : ℕ) → AreOwnCells tr (own_loop tr pl place) own → o ≡ (own_of tr pl place).slot cell) → o ≡ (own_of tree plan (styled_place c.turns)).slot cell
-    slot_found own o is found = ∥∥₁_elim t (same_slot o ((own_of tree plan (styled_place c.turns)).slot cell)) (λ k.
-        found tree plan (styled_place c.turns) (subst (AreOwnCells tree (own_loop tree plan (styled_place c.turns))) (sym is)
-        (subst (λ (z : Both). AreOwnCells z.0 (own_loop z.0 z.1 (styled_place c.turns)) (styled_own c.turns)) (both_is k) k.sound.own.cells)))
+    pub slot_found : (own : OwnCells) (o : Option ℕ) → own ≡ turns_own c.turns → ((tr : Tree) → (pl : Plan) → (place : ℕ) → AreOwnCells tr (own_loop tr pl place) own → o ≡ (own_of tr pl place).slot cell) → o ≡ (own_of tree plan (turns_place c.turns)).slot cell
+    slot_found own o is found = ∥∥₁_elim t (same_slot o ((own_of tree plan (turns_place c.turns)).slot cell)) (λ k.
+        found tree plan (turns_place c.turns) (subst (AreOwnCells tree (own_loop tree plan (turns_place c.turns))) (sym is)
+        (subst (λ (z : Both). AreOwnCells z.0 (own_loop z.0 z.1 (turns_place c.turns)) (turns_own c.turns)) (both_is k) k.sound.own.cells)))
 
-    pub small_found : (k : ℕ) → Some k ≡ (own_of tree plan (styled_place c.turns)).slot cell → k < 32
-    small_found k at = ∥∥₁_elim t (less k 32) (λ h. slot_small tree plan (styled_place c.turns) 0 (few_here h) cell k at)
+    pub small_found : (k : ℕ) → Some k ≡ (own_of tree plan (turns_place c.turns)).slot cell → k < 32
+    small_found k at = ∥∥₁_elim t (less k 32) (λ h. slot_small tree plan (turns_place c.turns) 0 (few_here h) cell k at)
 
 -- a cursor that runs is of its program and its plan
-pub cursor_of : (tree : Tree) (plan : Plan) (p : ℕ) (left : List Turn) (done : ℕ) (c : Cursor) (x : Executor) → Runs tree plan p left done c x → IsCursorOf tree plan c
+pub cursor_of : (tree : Tree) (plan : Plan) (p : ℕ) (left : List CounterTurn) (done : ℕ) (c : Cursor) (x : Executor) → Runs tree plan p left done c x → IsCursorOf tree plan c
 cursor_of tree plan p left done c x r = record { sound = r.sound.sound; program = r.program; plan_is = r.plan_is }
 
 -- ---- which deed comes next

@@ -22,7 +22,7 @@ use Rattle.spmd_model.specs.Machines.{machine_by}
 use Rattle.spmd_model.specs.MachineDeeds.{deeds_by}
 use Rattle.spmd_model.specs.Timelines.{Act, acts_of, load}
 use Rattle.spmd_model.specs.declared.style.Style.TheVariants.{Arrive}
-use Rattle.spmd_model.proofs.MachineDeeds.{styled_deeds}
+use Rattle.spmd_model.proofs.MachineDeeds.{acts_do}
 use Rattle.fork_join.specs.Joins.{Goes, IsSafe, all_deeds, begun, deeds_behind, in_front, joined, protocol, put}
 use Rattle.fork_join.specs.Overlays.{laid_in}
 use Rattle.fork_join.proofs.Crossing.{begun_none, cross, in_front_is, in_front_none, mixed_below, mixed_moves, mixed_past, put_moves, same_at}
@@ -130,5 +130,5 @@ safe_of tree plan laws formed limits ranges fits acts stored added printed own =
   added = added;
   printed = printed;
   own = own;
-  counted = λ p below. sym (length-map (acts_of (machine_by Arrive tree plan) p) (deed_of (machine_by Arrive tree plan))) ∙ ap length (styled_deeds Arrive tree plan p formed fits below);
+  counted = λ p below. sym (length-map (acts_of (machine_by Arrive tree plan) p) (deed_of (machine_by Arrive tree plan))) ∙ ap length (acts_do Arrive tree plan p formed fits below);
 }

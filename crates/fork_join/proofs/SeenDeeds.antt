@@ -17,7 +17,7 @@ use Rattle.sync_plan.specs.declared.plan.Plan.{Plan}
 use Rattle.own_cells.specs.OwnCells.{AreFew}
 use Rattle.spmd_model.specs.Deeds.{Deed, posting, awaiting, loading, storing, adding, printing, instance_deeds, last_deed}
 use Rattle.spmd_model.specs.MachineDeeds.{HasNoOwn, own_deeds}
-use Rattle.styled_turns.specs.StyledTurns.{scalar_at}
+use Rattle.turns.specs.Turns.{scalar_at}
 use Rattle.spmd_model.proofs.NoOwnDeeds.{same_deeds}
 use Rattle.fork_join.specs.Joins.{own_place}
 use Rattle.fork_join.specs.SeenDeeds.{is_seen, no_deed, phase_deed, same_cell, seen_deed, shared_deed, shared_for}

@@ -32,19 +32,20 @@ use Rattle.spmd_model.specs.Deeds.{Deed, last_deed, loading, owned_by, printing}
 use Rattle.spmd_model.specs.MachineDeeds.{own_deeds}
 use Rattle.spmd_model.specs.declared.style.Style.TheVariants.{Arrive}
 use Rattle.spmd_model.specs.PlanProtocols.{printed_by, registers_by}
-use Rattle.spmd_turns.specs.Executors.{CanExecute, executor_output, executor_room, executor_tree}
-use Rattle.spmd_turns.specs.Rooms.{statement_room, turn_room, visit_room}
-use Rattle.spmd_turns.specs.Turns.{Turn, boundary_turns, is_turn_inside, turns_from, works}
-use Rattle.spmd_turns.specs.TurnsLeft.{IsInstance, begun_by, turns_left, turns_tree}
-use Rattle.spmd_turns.specs.declared.execute.Executor.{Executor}
-use Rattle.styled_turns.specs.StyledTurns.{StyledTurn, runs, styled_deeds}
-use Rattle.styled_turns.specs.StyledLeft.{styled_place, styled_rounds}
-use Rattle.styled_turns.specs.declared.turns.NextOrPhase.TheVariants as Coming
-use Rattle.styled_turns.specs.declared.turns.StyledNext.TheVariants as Next
+use Rattle.instance_runs.specs.Executors.{CanExecute, executor_output, executor_room, executor_tree}
+use Rattle.instance_runs.specs.Rooms.{statement_room, visit_room}
+use Rattle.turns.specs.CounterTurns.{counter_room, CounterTurn, boundary_turns, is_counter_inside, counter_turns, works}
+use Rattle.turns.specs.CountersLeft.{begun_by, counters_left, counters_tree}
+use Rattle.instance_runs.specs.Stops.{IsInstance}
+use Rattle.instance_runs.specs.declared.execute.Executor.{Executor}
+use Rattle.turns.specs.Turns.{Turn, runs, turn_deeds}
+use Rattle.turns.specs.TurnsLeft.{turns_place, turns_rounds}
+use Rattle.turns.specs.declared.turns.NextOrPhase.TheVariants as Coming
+use Rattle.turns.specs.declared.turns.Next.TheVariants as Nexts
 use Rattle.fork_join.specs.Cursors.{ComesNext, IsCursor, IsSameCursor, cursor_left, cursor_turns}
 use Rattle.fork_join.specs.Joins.{IsSafe, all_deeds, begun, protocol, put}
 use Rattle.fork_join.specs.SeenDeeds.{phase_deed, shared_deed}
-use Rattle.fork_join.specs.Workers.{IsOverlay, IsTurnThere, Runs, turns_begun, turns_begun_from, turns_behind}
+use Rattle.fork_join.specs.Workers.{IsOverlay, IsCounterThere, Runs, turns_begun, turns_begun_from, turns_behind}
 use Rattle.fork_join.specs.declared.cursor.Cursor.{Cursor}
 use Rattle.fork_join.specs.declared.overlay.Overlay.{Overlay}
 use Rattle.fork_join.proofs.Acts.{print_there}
@@ -54,24 +55,24 @@ use Rattle.fork_join.proofs.Turning.{no_work, phase_begins, phase_next_drop, pha
 -- ---- lists of turns
 
 -- no instance comes first
-abbrev pub NoWork : List Turn → Type 0
-NoWork ts = (i : Instance) (rest : List Turn) → ts ≡ works i ∷ rest → ⊥
+abbrev pub NoWork : List CounterTurn → Type 0
+NoWork ts = (i : Instance) (rest : List CounterTurn) → ts ≡ works i ∷ rest → ⊥
 
 pub no_work_behind : (tree : Tree) (plan : Plan) (p n : ℕ) → NoWork (turns_behind tree plan n p)
 no_work_behind tree plan p n i rest is = by (drop n (phases tree plan.cut.marks)) refl
   where
     by : (vs : List Visit) → drop n (phases tree plan.cut.marks) ≡ vs → ⊥
-    by [] e = let none : turns_behind tree plan n p ≡ [] = ap (turns_from tree plan p (suc n)) e in let clash : [] ≡ works i ∷ rest = sym none ∙ is in cc
+    by [] e = let none : turns_behind tree plan n p ≡ [] = ap (counter_turns tree plan p (suc n)) e in let clash : [] ≡ works i ∷ rest = sym none ∙ is in cc
     by (v ∷ vs) e =
         let does = posts_at tree plan p v.place v.loops in
         let whom = waits_for tree plan p v.place v.loops in
         no_work (boundary_turns (suc n - 1) does whom) (turns_begun tree plan n p) (suc n) i rest (sym (phase_begins tree plan p n v vs e) ∙ is) (waiting_boundary (suc n - 1) does whom)
 
-same_work : (i j : Instance) (ts ss : List Turn) → works i ∷ ts ≡ works j ∷ ss → i ≡ j
+same_work : (i j : Instance) (ts ss : List CounterTurn) → works i ∷ ts ≡ works j ∷ ss → i ≡ j
 same_work i j ts ss is = cc
 
 -- some of the instances that are left stand first, and the others are left behind them
-pub cut_off : (is front : List Instance) (tail rest : List Turn) → NoWork tail → map works is ++ tail ≡ map works front ++ rest → (more : List Instance) × (is ≡ front ++ more) × (rest ≡ map works more ++ tail)
+pub cut_off : (is front : List Instance) (tail rest : List CounterTurn) → NoWork tail → map works is ++ tail ≡ map works front ++ rest → (more : List Instance) × (is ≡ front ++ more) × (rest ≡ map works more ++ tail)
 cut_off is [] tail rest none same = (is, refl, sym same)
 cut_off [] (a ∷ front) tail rest none same = absurd (none a (map works front ++ rest) same)
 cut_off (i ∷ is) (a ∷ front) tail rest none same =
@@ -79,22 +80,22 @@ cut_off (i ∷ is) (a ∷ front) tail rest none same =
     (r.0, ap (λ x. x ∷ is) (same_work i a (map works is ++ tail) (map works front ++ rest) same) ∙ ap (λ l. a ∷ l) r.1, r.2)
 
 -- no instance is left where another turn comes next
-pub all_done : (is : List Instance) (tail : List Turn) → ((i : Instance) (rest : List Turn) → map works is ++ tail ≡ works i ∷ rest → ⊥) → map works is ++ tail ≡ tail
+pub all_done : (is : List Instance) (tail : List CounterTurn) → ((i : Instance) (rest : List CounterTurn) → map works is ++ tail ≡ works i ∷ rest → ⊥) → map works is ++ tail ≡ tail
 all_done [] tail none = refl
 all_done (i ∷ is) tail none = absurd (none i (map works is ++ tail) refl)
 
-pub insides : (tree : Tree) (is : List Instance) (rest : List Turn) → list_all (is_turn_inside tree) (map works is ++ rest) ≡ true → (list_all (is_instance_inside tree) is ≡ true) × (list_all (is_turn_inside tree) rest ≡ true)
+pub insides : (tree : Tree) (is : List Instance) (rest : List CounterTurn) → list_all (is_counter_inside tree) (map works is ++ rest) ≡ true → (list_all (is_instance_inside tree) is ≡ true) × (list_all (is_counter_inside tree) rest ≡ true)
 insides tree [] rest all = (refl, all)
 insides tree (i ∷ is) rest all =
-    let parts = and_parts (is_instance_inside tree i) (list_all (is_turn_inside tree) (map works is ++ rest)) all in
+    let parts = and_parts (is_instance_inside tree i) (list_all (is_counter_inside tree) (map works is ++ rest)) all in
     let more = insides tree is rest parts.1 in
     (and_from (is_instance_inside tree i) (list_all (is_instance_inside tree) is) parts.0 more.0, more.1)
 
-pub theirs : (tree : Tree) (is : List Instance) (rest : List Turn) → All (IsTurnThere tree) (map works is ++ rest) → All (λ i. All (λ c. c < cell_count tree) (cells_of tree i)) is × All (IsTurnThere tree) rest
+pub theirs : (tree : Tree) (is : List Instance) (rest : List CounterTurn) → All (IsCounterThere tree) (map works is ++ rest) → All (λ i. All (λ c. c < cell_count tree) (cells_of tree i)) is × All (IsCounterThere tree) rest
 theirs tree [] rest all = (All-nil (λ i. All (λ c. c < cell_count tree) (cells_of tree i)), all)
 theirs tree (i ∷ is) rest all =
-    let more = theirs tree is rest (All-tail (IsTurnThere tree) (works i) (map works is ++ rest) all) in
-    (All-cons (λ i. All (λ c. c < cell_count tree) (cells_of tree i)) i is (All-head (IsTurnThere tree) (works i) (map works is ++ rest) all) more.0, more.1)
+    let more = theirs tree is rest (All-tail (IsCounterThere tree) (works i) (map works is ++ rest) all) in
+    (All-cons (λ i. All (λ c. c < cell_count tree) (cells_of tree i)) i is (All-head (IsCounterThere tree) (works i) (map works is ++ rest) all) more.0, more.1)
 
 -- ---- what an overlay keeps
 
@@ -177,17 +178,17 @@ seen_exactly seen all front left fronts done new is within was now =
 
 module _ (tree : Tree) (plan : Plan) (p place : ℕ) where
   -- instances, with the static phase that they are in
-  pub runs_do : (is : List Instance) (rest : List StyledTurn) → flat_map (styled_deeds tree plan p) (map (runs place) is ++ rest) ≡ flat_map (own_deeds tree (own_of tree plan place) p) is ++ flat_map (styled_deeds tree plan p) rest
+  pub runs_do : (is : List Instance) (rest : List Turn) → flat_map (turn_deeds tree plan p) (map (runs place) is ++ rest) ≡ flat_map (own_deeds tree (own_of tree plan place) p) is ++ flat_map (turn_deeds tree plan p) rest
   runs_do [] rest = refl
   runs_do (i ∷ is) rest =
       ap (λ l. own_deeds tree (own_of tree plan place) p i ++ l) (runs_do is rest)
-      ∙ sym (append_assoc (own_deeds tree (own_of tree plan place) p i) (flat_map (own_deeds tree (own_of tree plan place) p) is) (flat_map (styled_deeds tree plan p) rest))
+      ∙ sym (append_assoc (own_deeds tree (own_of tree plan place) p i) (flat_map (own_deeds tree (own_of tree plan place) p) is) (flat_map (turn_deeds tree plan p) rest))
 
-module _ (tree : Tree) (plan : Plan) (p : ℕ) (left : List Turn) (done after : ℕ) (c d : Cursor) (x y : Executor) (r : Runs tree plan p left done c x) (sound : IsCursor d) (run : IsSameCursor c d) where
+module _ (tree : Tree) (plan : Plan) (p : ℕ) (left : List CounterTurn) (done after : ℕ) (c d : Cursor) (x y : Executor) (r : Runs tree plan p left done c x) (sound : IsCursor d) (run : IsSameCursor c d) where
   -- instances are done, and the rest is left
-  pub went_on : (rest : List Turn) → cursor_left d ≡ rest → list_all (is_turn_inside tree) rest ≡ true → All (IsTurnThere tree) rest → drop after (all_deeds tree plan p) ≡ flat_map (styled_deeds tree plan p) (cursor_turns d) →
+  pub went_on : (rest : List CounterTurn) → cursor_left d ≡ rest → list_all (is_counter_inside tree) rest ≡ true → All (IsCounterThere tree) rest → drop after (all_deeds tree plan p) ≡ flat_map (turn_deeds tree plan p) (cursor_turns d) →
       after ≤ length (all_deeds tree plan p) → registers_by Arrive tree plan p after ≡ [] → CanExecute y → executor_tree y ≡ tree → executor_output y ≡ printed_by Arrive tree plan p after → length (executor_output y) ≤ executor_room y →
-      (p ≡ 0 → length (executor_output y) + sum_by (turn_room tree) rest ≤ executor_room y) → Runs tree plan p rest after d y
+      (p ≡ 0 → length (executor_output y) + sum_by (counter_room tree) rest ≤ executor_room y) → Runs tree plan p rest after d y
   went_on rest is inside there deeds within idle can same output fits room = record {
     sound = sound;
     program = run.program ∙ r.program;
@@ -206,29 +207,29 @@ module _ (tree : Tree) (plan : Plan) (p : ℕ) (left : List Turn) (done after : 
     room = room;
   }
 
-pub less_room : (f : Turn → ℕ) (front rest left : List Turn) → left ≡ front ++ rest → sum_by f rest ≤ sum_by f left
+pub less_room : (f : CounterTurn → ℕ) (front rest left : List CounterTurn) → left ≡ front ++ rest → sum_by f rest ≤ sum_by f left
 less_room f front rest left is = let all = ap (sum_by f) is in omega (arith, all, sum_by-append f front rest)
 
-pub same_room : (tree : Tree) (rounds : List Round) (stop : Stop) (at : IsInstance tree rounds stop) → visit_room tree (visit_at tree rounds stop) ≡ turn_room tree (works at.instance)
+pub same_room : (tree : Tree) (rounds : List Round) (stop : Stop) (at : IsInstance tree rounds stop) → visit_room tree (visit_at tree rounds stop) ≡ counter_room tree (works at.instance)
 same_room tree rounds stop at = by (visit_at tree rounds stop) at.instance at.is
   where
     executed : (b : Bool) (i j : Instance) → (if b then i ∷ [] else []) ≡ j ∷ [] → j ≡ i
     executed true i j is = cc
     executed false i j is = absurd (cc)
 
-    by : (v : Visit) (i : Instance) → instances_at (param_values tree) v ≡ i ∷ [] → visit_room tree v ≡ turn_room tree (works i)
+    by : (v : Visit) (i : Instance) → instances_at (param_values tree) v ≡ i ∷ [] → visit_room tree v ≡ counter_room tree (works i)
     by v i is = on v.what is
       where
-        on : (s : Statement) → instances_at (param_values tree) (record { place = v.place; first = v.first; what = s; loops = v.loops }) ≡ i ∷ [] → statement_room tree s ≡ turn_room tree (works i)
+        on : (s : Statement) → instances_at (param_values tree) (record { place = v.place; first = v.first; what = s; loops = v.loops }) ≡ i ∷ [] → statement_room tree s ≡ counter_room tree (works i)
         on (do_loop head body) is = absurd (cc)
-        on (work w) is = ap (λ (j : Instance). turn_room tree (works j)) (sym (executed (is_executed w v.loops (param_values tree)) (record { statement = v.first; what = w; loops = v.loops }) i is))
+        on (work w) is = ap (λ (j : Instance). counter_room tree (works j)) (sym (executed (is_executed w v.loops (param_values tree)) (record { statement = v.first; what = w; loops = v.loops }) i is))
         on (continue line) is = absurd (cc)
 
 -- another processor than the first prints nothing
-pub no_print : (tree : Tree) (plan : Plan) (safe : IsSafe tree plan) (place p n : ℕ) (i : Instance) (rest : List Deed) → p < plan.workers → drop n (all_deeds tree plan p) ≡ own_deeds tree (own_of tree plan place) p i ++ rest → p ≢ 0 → turn_room tree (works i) ≡ 0
+pub no_print : (tree : Tree) (plan : Plan) (safe : IsSafe tree plan) (place p n : ℕ) (i : Instance) (rest : List Deed) → p < plan.workers → drop n (all_deeds tree plan p) ≡ own_deeds tree (own_of tree plan place) p i ++ rest → p ≢ 0 → counter_room tree (works i) ≡ 0
 no_print tree plan safe place p n i rest below is other = by i.what refl
   where
-    by : (w : Work) → i.what ≡ w → turn_room tree (works i) ≡ 0
+    by : (w : Work) → i.what ≡ w → counter_room tree (works i) ≡ 0
     by (assign a) e = ap (λ (w : Work). statement_room tree (work w)) e
     by (print q) e =
         let goes = own_cell (own_of tree plan place) p in
@@ -251,33 +252,33 @@ pub record NextHere (tree : Tree) (plan : Plan) (n p done : ℕ) (left : List In
   pub at : IsInstance (executor_tree x) rounds stop
   pub inside : is_instance_inside (executor_tree x) at.instance ≡ true
   pub there : All (λ c. c < cell_count tree) (cells_of tree at.instance)
-  pub later : List StyledTurn
-  pub turns : cursor_turns c ≡ runs (styled_place c.turns) at.instance ∷ later
-  pub gone : drop done (all_deeds tree plan p) ≡ own_deeds tree (own_of tree plan (styled_place c.turns)) p at.instance ++ flat_map (styled_deeds tree plan p) later
+  pub later : List Turn
+  pub turns : cursor_turns c ≡ runs (turns_place c.turns) at.instance ∷ later
+  pub gone : drop done (all_deeds tree plan p) ≡ own_deeds tree (own_of tree plan (turns_place c.turns)) p at.instance ++ flat_map (turn_deeds tree plan p) later
   pub more : List Instance
-  pub rest : List Turn
+  pub rest : List CounterTurn
   pub is : cursor_left c ≡ works at.instance ∷ rest
   pub split : rest ≡ map works more ++ turns_behind tree plan (suc n) p
-  pub rest_inside : list_all (is_turn_inside tree) rest ≡ true
-  pub rest_there : All (IsTurnThere tree) rest
-  pub room : visit_room (executor_tree x) (visit_at (executor_tree x) rounds stop) ≡ turn_room tree (works at.instance)
+  pub rest_inside : list_all (is_counter_inside tree) rest ≡ true
+  pub rest_there : All (IsCounterThere tree) rest
+  pub room : visit_room (executor_tree x) (visit_at (executor_tree x) rounds stop) ≡ counter_room tree (works at.instance)
 
-pub next_here : (tree : Tree) (plan : Plan) (n p done : ℕ) (left : List Instance) (c : Cursor) (x : Executor) (stop : Stop) (rounds : List Round) → Runs tree plan p (map works left ++ turns_behind tree plan (suc n) p) done c x → styled_rounds c.turns ≡ rounds
-    → ComesNext c (Coming.Turn (Next.Work stop)) → NextHere tree plan n p done left c x stop rounds
+pub next_here : (tree : Tree) (plan : Plan) (n p done : ℕ) (left : List Instance) (c : Cursor) (x : Executor) (stop : Stop) (rounds : List Round) → Runs tree plan p (map works left ++ turns_behind tree plan (suc n) p) done c x → turns_rounds c.turns ≡ rounds
+    → ComesNext c (Coming.Turn (Nexts.Work stop)) → NextHere tree plan n p done left c x stop rounds
 next_here tree plan n p done left c x stop rounds r same comes =
     let own = comes.1.0 in
     let i = own.instance in
     let later = comes.1.1.0 in
-    let place = styled_place c.turns in
+    let place = turns_place c.turns in
     let plain = comes.1.2.next in
-    let left_is : cursor_left c ≡ works plain.0.instance ∷ plain.1 = ap (λ b. begun_by b ++ turns_left c.turns.turns) comes.0 ∙ plain.2 in
+    let left_is : cursor_left c ≡ works plain.0.instance ∷ plain.1 = ap (λ b. begun_by b ++ counters_left c.turns.counters) comes.0 ∙ plain.2 in
     let one : i ∷ [] ≡ plain.0.instance ∷ [] = sym own.is ∙ plain.0.is in
     let only : plain.0.instance ≡ i = cc in
     let next_is : cursor_left c ≡ works i ∷ plain.1 = left_is ∙ ap (λ j. works j ∷ plain.1) only in
     let rest = plain.1 in
     let tail = turns_behind tree plan (suc n) p in
-    let tree_is : turns_tree c.turns.turns ≡ tree = r.sound.sound.same_tree ∙ r.program in
-    let both : (turns_tree c.turns.turns, styled_rounds c.turns) ≡ (executor_tree x, rounds) = λ k. ((tree_is ∙ sym r.executor) k, same k) in
+    let tree_is : counters_tree c.turns.counters ≡ tree = r.sound.sound.same_tree ∙ r.program in
+    let both : (counters_tree c.turns.counters, turns_rounds c.turns) ≡ (executor_tree x, rounds) = λ k. ((tree_is ∙ sym r.executor) k, same k) in
     let here : IsInstance (executor_tree x) rounds stop = record {
       instance = i;
       is = subst (λ (k : Tree × List Round). instances_at (param_values k.0) (visit_at k.0 k.1 stop) ≡ i ∷ []) both own.is;
@@ -286,8 +287,8 @@ next_here tree plan n p done left c x stop rounds r same comes =
     } in
     let stands : map works left ++ tail ≡ map works (i ∷ []) ++ rest = sym r.turns ∙ next_is in
     let cut = cut_off left (i ∷ []) tail rest (no_work_behind tree plan p (suc n)) stands in
-    let all = insides tree (i ∷ []) rest (subst (λ (l : List Turn). list_all (is_turn_inside tree) l ≡ true) stands r.inside) in
-    let cells = theirs tree (i ∷ []) rest (subst (All (IsTurnThere tree)) stands r.there) in
+    let all = insides tree (i ∷ []) rest (subst (λ (l : List CounterTurn). list_all (is_counter_inside tree) l ≡ true) stands r.inside) in
+    let cells = theirs tree (i ∷ []) rest (subst (All (IsCounterThere tree)) stands r.there) in
     let first = and_parts (is_instance_inside tree i) true all.0 in
     record {
       at = here;
@@ -295,14 +296,14 @@ next_here tree plan n p done left c x stop rounds r same comes =
       there = All-head (λ j. All (λ c. c < cell_count tree) (cells_of tree j)) i [] cells.0;
       later = later;
       turns = comes.1.1.1;
-      gone = r.deeds ∙ ap (flat_map (styled_deeds tree plan p)) comes.1.1.1;
+      gone = r.deeds ∙ ap (flat_map (turn_deeds tree plan p)) comes.1.1.1;
       more = cut.0;
       rest = rest;
       is = next_is;
       split = cut.2;
       rest_inside = all.1;
       rest_there = cells.1;
-      room = same_room (executor_tree x) rounds stop here ∙ ap (λ t. turn_room t (works i)) r.executor;
+      room = same_room (executor_tree x) rounds stop here ∙ ap (λ t. counter_room t (works i)) r.executor;
     }
 
 -- there is room for its line
@@ -311,12 +312,12 @@ pub next_room : (tree : Tree) (plan : Plan) (safe : IsSafe tree plan) (n p done 
 next_room tree plan safe n p done left c x stop rounds r below h = elim (cases_eq p 0) [
   | inl first ↦
       let most = r.room first in
-      let all = ap (sum_by (turn_room tree)) (sym r.turns ∙ h.is) in
-      let one = sum_by-cons (turn_room tree) (works h.at.instance) h.rest in
+      let all = ap (sum_by (counter_room tree)) (sym r.turns ∙ h.is) in
+      let one = sum_by-cons (counter_room tree) (works h.at.instance) h.rest in
       let here = h.room in
       omega (arith, most, all, one, here)
   | inr other ↦
-      let none = no_print tree plan safe (styled_place c.turns) p done h.at.instance (flat_map (styled_deeds tree plan p) h.later) below h.gone other in
+      let none = no_print tree plan safe (turns_place c.turns) p done h.at.instance (flat_map (turn_deeds tree plan p) h.later) below h.gone other in
       let fits = r.fits in
       let here = h.room in
       omega (arith, none, fits, here)
@@ -333,4 +334,4 @@ pub begun_works : (tree : Tree) (plan : Plan) (n p : ℕ) → n < length (phases
 begun_works tree plan n p lt =
     let v = phase_there n (phases tree plan.cut.marks) lt in
     let own = owned_by tree (slice_get plan.anchors (v.0.place - 1)) plan.workers p v.0 in
-    (own, ap (turns_begun_from tree plan p (suc n)) v.2 ∙ ap (λ vs. map works own ++ turns_from tree plan p (suc (suc n)) vs) (sym (phase_next_drop n (phases tree plan.cut.marks) v.0 v.1 v.2)))
+    (own, ap (turns_begun_from tree plan p (suc n)) v.2 ∙ ap (λ vs. map works own ++ counter_turns tree plan p (suc (suc n)) vs) (sym (phase_next_drop n (phases tree plan.cut.marks) v.0 v.1 v.2)))

@@ -24,12 +24,12 @@ use Rattle.sync_plan.specs.declared.plan.Plan.{Plan}
 use Rattle.spmd_model.specs.Deeds.{owned_by}
 use Rattle.spmd_model.proofs.CellsThere.{IsGoodWork, cells_there, good_in}
 use Rattle.spmd_model.specs.Protocols.{held_at}
-use Rattle.spmd_turns.specs.Rooms.{longest_output, turn_room}
-use Rattle.spmd_turns.specs.Turns.{Turn, awaits, begins, boundary_turns, posts, turns_from, works}
-use Rattle.spmd_turns.proofs.PhaseSums.{phases_whole, rooms_below}
+use Rattle.instance_runs.specs.Rooms.{longest_output}
+use Rattle.turns.specs.CounterTurns.{counter_room, CounterTurn, awaits, begins, boundary_turns, posts, counter_turns, works}
+use Rattle.turns.proofs.PhaseSums.{phases_whole, rooms_below}
 use Rattle.fork_join.specs.StoreLists.{cells_of, entries_of}
 use Rattle.fork_join.specs.Joins.{Goes, HoldsOwn, IsAlone, IsSafe, begun, own_place, protocol}
-use Rattle.fork_join.specs.Workers.{IsOverlay, IsTurnThere}
+use Rattle.fork_join.specs.Workers.{IsOverlay, IsCounterThere}
 use Rattle.fork_join.specs.declared.overlay.Overlay.{Overlay}
 use Rattle.fork_join.proofs.Alone.{goes_none}
 
@@ -109,38 +109,38 @@ front_cells tree (x ∷ xs) ys all =
     let more = front_cells tree xs ys (All-tail (AreCells tree) x (xs ++ ys) all) in
     (All-cons (AreCells tree) x xs (All-head (AreCells tree) x (xs ++ ys) all) more.0, more.1)
 
-awaits_there : (tree : Tree) (k : ℕ) (qs : List ℕ) (rest : List Turn) → All (IsTurnThere tree) rest → All (IsTurnThere tree) (map (λ q. awaits q k) qs ++ rest)
+awaits_there : (tree : Tree) (k : ℕ) (qs : List ℕ) (rest : List CounterTurn) → All (IsCounterThere tree) rest → All (IsCounterThere tree) (map (λ q. awaits q k) qs ++ rest)
 awaits_there tree k [] rest all = all
-awaits_there tree k (q ∷ qs) rest all = All-cons (IsTurnThere tree) (awaits q k) (map (λ q. awaits q k) qs ++ rest) tt (awaits_there tree k qs rest all)
+awaits_there tree k (q ∷ qs) rest all = All-cons (IsCounterThere tree) (awaits q k) (map (λ q. awaits q k) qs ++ rest) tt (awaits_there tree k qs rest all)
 
-boundary_there : (tree : Tree) (k : ℕ) (does : Bool) (qs : List ℕ) (rest : List Turn) → All (IsTurnThere tree) rest → All (IsTurnThere tree) (boundary_turns k does qs ++ rest)
-boundary_there tree k true qs rest all = All-cons (IsTurnThere tree) (posts k) (map (λ q. awaits q k) qs ++ rest) tt (awaits_there tree k qs rest all)
+boundary_there : (tree : Tree) (k : ℕ) (does : Bool) (qs : List ℕ) (rest : List CounterTurn) → All (IsCounterThere tree) rest → All (IsCounterThere tree) (boundary_turns k does qs ++ rest)
+boundary_there tree k true qs rest all = All-cons (IsCounterThere tree) (posts k) (map (λ q. awaits q k) qs ++ rest) tt (awaits_there tree k qs rest all)
 boundary_there tree k false qs rest all = awaits_there tree k qs rest all
 
-works_there : (tree : Tree) (is : List Instance) (rest : List Turn) → All (AreCells tree) is → All (IsTurnThere tree) rest → All (IsTurnThere tree) (map works is ++ rest)
+works_there : (tree : Tree) (is : List Instance) (rest : List CounterTurn) → All (AreCells tree) is → All (IsCounterThere tree) rest → All (IsCounterThere tree) (map works is ++ rest)
 works_there tree [] rest cells all = all
-works_there tree (i ∷ is) rest cells all = All-cons (IsTurnThere tree) (works i) (map works is ++ rest) (All-head (AreCells tree) i is cells) (works_there tree is rest (All-tail (AreCells tree) i is cells) all)
+works_there tree (i ∷ is) rest cells all = All-cons (IsCounterThere tree) (works i) (map works is ++ rest) (All-head (AreCells tree) i is cells) (works_there tree is rest (All-tail (AreCells tree) i is cells) all)
 
-turns_there : (tree : Tree) (plan : Plan) (p e : ℕ) (vs : List Visit) → All (AreCells tree) (flat_map (phase_instances (param_values tree)) vs) → All (IsTurnThere tree) (turns_from tree plan p e vs)
-turns_there tree plan p e [] all = All-nil (IsTurnThere tree)
+turns_there : (tree : Tree) (plan : Plan) (p e : ℕ) (vs : List Visit) → All (AreCells tree) (flat_map (phase_instances (param_values tree)) vs) → All (IsCounterThere tree) (counter_turns tree plan p e vs)
+turns_there tree plan p e [] all = All-nil (IsCounterThere tree)
 turns_there tree plan p e (v ∷ vs) all =
     let does = posts_at tree plan p v.place v.loops in
     let qs = waits_for tree plan p v.place v.loops in
     let own = owned_by tree (slice_get plan.anchors (v.place - 1)) plan.workers p v in
-    let later = turns_from tree plan p (suc e) vs in
+    let later = counter_turns tree plan p (suc e) vs in
     let parts = front_cells tree (phase_instances (param_values tree) v) (flat_map (phase_instances (param_values tree)) vs) all in
-    subst (All (IsTurnThere tree)) (sym (append_assoc (boundary_turns (e - 1) does qs) (begins e ∷ map works own) later))
+    subst (All (IsCounterThere tree)) (sym (append_assoc (boundary_turns (e - 1) does qs) (begins e ∷ map works own) later))
     (boundary_there tree (e - 1) does qs (begins e ∷ (map works own ++ later))
-    (All-cons (IsTurnThere tree) (begins e) (map works own ++ later) tt (works_there tree own later (owned_cells tree (slice_get plan.anchors (v.place - 1)) plan.workers p v parts.0) (turns_there tree plan p (suc e) vs parts.1))))
+    (All-cons (IsCounterThere tree) (begins e) (map works own ++ later) tt (works_there tree own later (owned_cells tree (slice_get plan.anchors (v.place - 1)) plan.workers p v parts.0) (turns_there tree plan p (suc e) vs parts.1))))
 
-pub all_there : (tree : Tree) (plan : Plan) (p : ℕ) → IsWellFormed tree → IsInRange tree → All (IsTurnThere tree) (turns_from tree plan p 1 (phases tree plan.cut.marks))
+pub all_there : (tree : Tree) (plan : Plan) (p : ℕ) → IsWellFormed tree → IsInRange tree → All (IsCounterThere tree) (counter_turns tree plan p 1 (phases tree plan.cut.marks))
 all_there tree plan p formed ranges = turns_there tree plan p 1 (phases tree plan.cut.marks) (subst (All (AreCells tree)) (sym (phases_whole tree plan.cut.marks)) (all_cells tree formed ranges))
 
 -- the first processor prints no more than the whole output
-pub first_room : (tree : Tree) (plan : Plan) → 0 < plan.workers → sum_by (turn_room tree) (turns_from tree plan 0 1 (phases tree plan.cut.marks)) ≤ longest_output tree
+pub first_room : (tree : Tree) (plan : Plan) → 0 < plan.workers → sum_by (counter_room tree) (counter_turns tree plan 0 1 (phases tree plan.cut.marks)) ≤ longest_output tree
 first_room tree plan some = by plan.workers some (rooms_below tree plan)
   where
-    by : (workers : ℕ) → 0 < workers → sum_by (λ p. sum_by (turn_room tree) (turns_from tree plan p 1 (phases tree plan.cut.marks))) (range_with_len 0 workers) ≤ longest_output tree → sum_by (turn_room tree) (turns_from tree plan 0 1 (phases tree plan.cut.marks)) ≤ longest_output tree
+    by : (workers : ℕ) → 0 < workers → sum_by (λ p. sum_by (counter_room tree) (counter_turns tree plan p 1 (phases tree plan.cut.marks))) (range_with_len 0 workers) ≤ longest_output tree → sum_by (counter_room tree) (counter_turns tree plan 0 1 (phases tree plan.cut.marks)) ≤ longest_output tree
     by zero lt most = absurd (omega arith)
     by (suc k) lt most =
-        omega (arith, most, sum_by-cons (λ p. sum_by (turn_room tree) (turns_from tree plan p 1 (phases tree plan.cut.marks))) 0 (range_with_len 1 k))
+        omega (arith, most, sum_by-cons (λ p. sum_by (counter_room tree) (counter_turns tree plan p 1 (phases tree plan.cut.marks))) 0 (range_with_len 1 k))

@@ -6,7 +6,7 @@ use Rattle.sync_plan.specs.Own.{own_cell, own_loop, own_of}
 use Rattle.sync_plan.specs.declared.plan.Plan.{Plan}
 use Rattle.spmd_model.specs.Deeds.{Deed, posting, awaiting, loading, storing, adding, printing}
 use Rattle.spmd_model.specs.Timelines.{counter}
-use Rattle.styled_turns.specs.StyledTurns.{scalar_at}
+use Rattle.turns.specs.Turns.{scalar_at}
 
 -- an instance has a deed of this cell, of so many that all share: it's the one that a cell goes to, which comes from it
 abbrev pub is_seen : (to from : ℕ → ℕ) → (cells cell : ℕ) → Bool

@@ -12,12 +12,11 @@ use Rattle.sync_plan.specs.declared.plan.Plan.{Plan}
 use Rattle.spmd_model.specs.Deeds.{owned_by}
 use Rattle.spmd_model.specs.declared.style.Style.TheVariants.{Arrive}
 use Rattle.spmd_model.specs.PlanProtocols.{printed_by, registers_by}
-use Rattle.spmd_turns.specs.Executors.{CanExecute, executor_output, executor_room, executor_tree}
-use Rattle.spmd_turns.specs.Rooms.{turn_room}
-use Rattle.spmd_turns.specs.Turns.{Turn, posts, awaits, begins, is_turn_inside, turn_deeds, turns_from, works}
-use Rattle.spmd_turns.specs.declared.execute.Executor.{Executor}
-use Rattle.styled_turns.specs.StyledTurns.{StyledTurn, styled_deeds}
-use Rattle.styled_turns.specs.StyledLeft.{AreStyled}
+use Rattle.instance_runs.specs.Executors.{CanExecute, executor_output, executor_room, executor_tree}
+use Rattle.turns.specs.CounterTurns.{counter_room, CounterTurn, posts, awaits, begins, is_counter_inside, counter_deeds, counter_turns, works}
+use Rattle.instance_runs.specs.declared.execute.Executor.{Executor}
+use Rattle.turns.specs.Turns.{Turn, turn_deeds}
+use Rattle.turns.specs.TurnsLeft.{AreSound}
 use Rattle.crossbeam_utils.specs.declared.cache_padded.CachePadded.{CachePadded}
 use Rattle.crossbeam_utils.specs.Padded.{padded_value}
 use Rattle.fork_join.specs.Cursors.{IsCursor, IsShut, cursor_left, cursor_plan, cursor_processor, cursor_tree, cursor_turns}
@@ -28,55 +27,55 @@ use Rattle.fork_join.specs.declared.overlay.Overlay.{Overlay}
 use Rattle.fork_join.specs.declared.worker.Worker.{Worker}
 
 -- the turns in phases behind so many
-abbrev pub turns_behind : Tree → Plan → ℕ → ℕ → List Turn
-turns_behind tree plan n p = turns_from tree plan p (suc n) (drop n (phases tree plan.cut.marks))
+abbrev pub turns_behind : Tree → Plan → ℕ → ℕ → List CounterTurn
+turns_behind tree plan n p = counter_turns tree plan p (suc n) (drop n (phases tree plan.cut.marks))
 
 -- the same from the first phase's first instance on
-abbrev pub turns_begun_from : Tree → Plan → ℕ → ℕ → List Visit → List Turn
+abbrev pub turns_begun_from : Tree → Plan → ℕ → ℕ → List Visit → List CounterTurn
 turns_begun_from tree plan p e [] = []
-turns_begun_from tree plan p e (v ∷ rest) = map works (owned_by tree (slice_get plan.anchors (v.place - 1)) plan.workers p v) ++ turns_from tree plan p (suc e) rest
+turns_begun_from tree plan p e (v ∷ rest) = map works (owned_by tree (slice_get plan.anchors (v.place - 1)) plan.workers p v) ++ counter_turns tree plan p (suc e) rest
 
-abbrev pub turns_begun : Tree → Plan → ℕ → ℕ → List Turn
+abbrev pub turns_begun : Tree → Plan → ℕ → ℕ → List CounterTurn
 turns_begun tree plan n p = turns_begun_from tree plan p (suc n) (drop n (phases tree plan.cut.marks))
 
 -- a post or an await
-abbrev pub IsWaiting : Turn → Type 0
-IsWaiting (posts number) = Unit {0}
-IsWaiting (awaits on wanted) = Unit {0}
-IsWaiting (begins e) = ⊥
-IsWaiting (works i) = ⊥
+abbrev pub IsBoundaryTurn : CounterTurn → Type 0
+IsBoundaryTurn (posts number) = Unit {0}
+IsBoundaryTurn (awaits on wanted) = Unit {0}
+IsBoundaryTurn (begins e) = ⊥
+IsBoundaryTurn (works i) = ⊥
 
-abbrev pub AreWaiting : List Turn → Type 0
-AreWaiting [] = Unit {0}
-AreWaiting (t ∷ ts) = IsWaiting t × AreWaiting ts
+abbrev pub AreBoundaryTurns : List CounterTurn → Type 0
+AreBoundaryTurns [] = Unit {0}
+AreBoundaryTurns (t ∷ ts) = IsBoundaryTurn t × AreBoundaryTurns ts
 
 -- each cell of an instance is one of those that all share
-abbrev pub IsTurnThere : Tree → Turn → Type 0
-IsTurnThere tree (posts number) = Unit {0}
-IsTurnThere tree (awaits on wanted) = Unit {0}
-IsTurnThere tree (begins e) = Unit {0}
-IsTurnThere tree (works i) = All (λ c. c < cell_count tree) (cells_in tree i)
+abbrev pub IsCounterThere : Tree → CounterTurn → Type 0
+IsCounterThere tree (posts number) = Unit {0}
+IsCounterThere tree (awaits on wanted) = Unit {0}
+IsCounterThere tree (begins e) = Unit {0}
+IsCounterThere tree (works i) = All (λ c. c < cell_count tree) (cells_in tree i)
 
 -- a cursor of processor p of a program under a plan has these turns left, behind so many deeds, and an executor has printed what they print; the one that prints has room for the rest
-pub record Runs (tree : Tree) (plan : Plan) (p : ℕ) (left : List Turn) (done : ℕ) (c : Cursor) (x : Executor) : Type 0 where
+pub record Runs (tree : Tree) (plan : Plan) (p : ℕ) (left : List CounterTurn) (done : ℕ) (c : Cursor) (x : Executor) : Type 0 where
   pub sound : IsCursor c
   pub program : cursor_tree c ≡ tree
   pub plan_is : cursor_plan c ≡ plan
   pub processor : cursor_processor c ≡ p
   pub turns : cursor_left c ≡ left
-  pub inside : list_all (is_turn_inside tree) left ≡ true
-  pub there : All (IsTurnThere tree) left
-  pub deeds : drop done (all_deeds tree plan p) ≡ flat_map (styled_deeds tree plan p) (cursor_turns c)
+  pub inside : list_all (is_counter_inside tree) left ≡ true
+  pub there : All (IsCounterThere tree) left
+  pub deeds : drop done (all_deeds tree plan p) ≡ flat_map (turn_deeds tree plan p) (cursor_turns c)
   pub within : done ≤ length (all_deeds tree plan p)
   pub idle : registers_by Arrive tree plan p done ≡ []
   pub can : CanExecute x
   pub executor : executor_tree x ≡ tree
   pub output : executor_output x ≡ printed_by Arrive tree plan p done
   pub fits : length (executor_output x) ≤ executor_room x
-  pub room : p ≡ 0 → length (executor_output x) + sum_by (turn_room tree) left ≤ executor_room x
+  pub room : p ≡ 0 → length (executor_output x) + sum_by (counter_room tree) left ≤ executor_room x
 
 -- a worker is that processor, keeps its stores to the program's cells, and its own cells hold what it stored there
-pub record Stands (tree : Tree) (plan : Plan) (p : ℕ) (left : List Turn) (w : Worker) : Type 0 where
+pub record Stands (tree : Tree) (plan : Plan) (p : ℕ) (left : List CounterTurn) (w : Worker) : Type 0 where
   pub program : tree_of w.program.now ≡ tree
   pub plan_is : w.plan.now ≡ plan
   pub processor : w.processor ≡ p
@@ -100,12 +99,12 @@ pub record IsAt (tree : Tree) (plan : Plan) (n p : ℕ) (w : Worker) : Type 0 wh
 
 -- some of the posts and awaits of the boundary behind so many phases are left
 pub record IsBeginning (tree : Tree) (plan : Plan) (n p : ℕ) (w : Worker) : Type 0 where
-  pub ahead : List Turn
-  pub waits : AreWaiting ahead
+  pub ahead : List CounterTurn
+  pub waits : AreBoundaryTurns ahead
   pub stands : Stands tree plan p (ahead ++ begins (suc n) ∷ turns_begun tree plan n p) w
   pub none : entries_of w.stores ≡ []
   pub shut : IsShut w.turns
-  pub left : flat_map (styled_deeds tree plan p) (cursor_turns w.turns) ≡ flat_map (turn_deeds tree) ahead ++ deeds_begun tree plan n p
+  pub left : flat_map (turn_deeds tree plan p) (cursor_turns w.turns) ≡ flat_map (counter_deeds tree) ahead ++ deeds_begun tree plan n p
 
 -- it is past the boundary behind so many phases
 pub record HasBegun (tree : Tree) (plan : Plan) (n p : ℕ) (w : Worker) : Type 0 where
@@ -139,7 +138,7 @@ pub record IsWalking (tree : Tree) (plan : Plan) (n p done : ℕ) (c : Cursor) (
 
 -- an executor has done the first of what a cursor has left, behind so many deeds
 pub record HasExecuted (tree : Tree) (plan : Plan) (p done after : ℕ) (c : Cursor) (x y : Executor) : Type 0 where
-  pub first : (t : StyledTurn) (rest : List StyledTurn) → cursor_turns c ≡ t ∷ rest → drop after (all_deeds tree plan p) ≡ flat_map (styled_deeds tree plan p) rest
+  pub first : (t : Turn) (rest : List Turn) → cursor_turns c ≡ t ∷ rest → drop after (all_deeds tree plan p) ≡ flat_map (turn_deeds tree plan p) rest
   pub within : after ≤ length (all_deeds tree plan p)
   pub idle : registers_by Arrive tree plan p after ≡ []
   pub can : CanExecute y
@@ -147,11 +146,11 @@ pub record HasExecuted (tree : Tree) (plan : Plan) (p done after : ℕ) (c : Cur
   pub output : executor_output y ≡ printed_by Arrive tree plan p after
   pub wider : executor_room x ≤ executor_room y
   pub fits : length (executor_output y) ≤ executor_room y
-  pub grown : (t : Turn) (rest : List Turn) → cursor_left c ≡ t ∷ rest → length (executor_output y) ≤ length (executor_output x) + turn_room tree t
+  pub grown : (t : CounterTurn) (rest : List CounterTurn) → cursor_left c ≡ t ∷ rest → length (executor_output y) ≤ length (executor_output x) + counter_room tree t
 
 -- a cursor is of this program and this plan
 pub record IsCursorOf (tree : Tree) (plan : Plan) (c : Cursor) : Type 0 where
-  pub sound : AreStyled c.turns
+  pub sound : AreSound c.turns
   pub program : cursor_tree c ≡ tree
   pub plan_is : cursor_plan c ≡ plan
 

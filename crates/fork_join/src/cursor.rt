@@ -8,21 +8,21 @@ ghost use Rattle.nest_walk.specs.RoundsOf.{rounds_of};
 ghost use Rattle.owner_partition.specs.Phases.{phases};
 ghost use Rattle.sync_plan.specs.Fit.{IsFit};
 ghost use Rattle.spmd_model.specs.declared.style.Style.TheVariants.{Arrive};
-ghost use Rattle.spmd_turns.specs.Turns.{begins, turns_from};
-ghost use Rattle.styled_turns.specs.StyledTurns.{first_standing, styled};
+ghost use Rattle.turns.specs.CounterTurns.{begins, counter_turns};
+ghost use Rattle.turns.specs.Turns.{first_standing, turns_by};
 
 use nest_tree::Program;
 use nest_walk::{Path, Strip};
 use own_cells::OwnCells;
 use spmd_model::Style;
-use styled_turns::{NextOrPhase, StyledNext, StyledTurns};
 use sync_plan::Plan;
+use turns::{Next, NextOrPhase, Turns};
 
 /// What is left of a worker's turns. A phase that begins comes next until the worker is past its
 /// beginning.
 #[derive(Drop)]
 pub(crate) struct Cursor<'a> {
-    turns: StyledTurns<'a>,
+    turns: Turns<'a>,
     // the phase that was seen to begin next
     begins: Option<u64>,
 }
@@ -30,9 +30,9 @@ pub(crate) struct Cursor<'a> {
 impl<'a> Cursor<'a> {
     ghost use Rattle.nest_walk.specs.Strips.{strip_left, strip_tree};
     ghost use Rattle.spmd_model.specs.MachineDeeds.{HasNoOwn};
-    ghost use Rattle.spmd_turns.specs.Turns.{works};
-    ghost use Rattle.styled_turns.specs.StyledTurns.{StyledTurn, runs};
-    ghost use Rattle.styled_turns.specs.StyledLeft.{IsStyledNext, IsTurn, PassesPlainly, styled_own, styled_place, styled_rounds};
+    ghost use Rattle.turns.specs.CounterTurns.{works};
+    ghost use Rattle.turns.specs.Turns.{Turn, runs};
+    ghost use Rattle.turns.specs.TurnsLeft.{IsNext, IsTurn, PassesPlainly, turns_own, turns_place, turns_rounds};
     ghost use Rattle.fork_join.specs.Cursors.{ComesNext, IsCursor, IsSameCursor, cursor_left, cursor_plan, cursor_processor, cursor_tree, cursor_turns};
 
     /// All turns of a processor.
@@ -42,32 +42,32 @@ impl<'a> Cursor<'a> {
         requires fits { IsFit (tree_of program.now) plan.now }
         requires worker { processor < plan.now.workers }
         ensures sound { IsCursor result }
-        ensures left { cursor_left result ≡ turns_from (tree_of program.now) plan.now processor 1
+        ensures left { cursor_left result ≡ counter_turns (tree_of program.now) plan.now processor 1
             (phases (tree_of program.now) plan.now.cut.marks) }
         ensures turns { cursor_turns result
-            ≡ styled Arrive (tree_of program.now) plan.now processor first_standing
-            (turns_from (tree_of program.now) plan.now processor 1
+            ≡ turns_by Arrive (tree_of program.now) plan.now processor first_standing
+            (counter_turns (tree_of program.now) plan.now processor 1
             (phases (tree_of program.now) plan.now.cut.marks)) }
         ensures program { cursor_tree result ≡ tree_of program.now }
         ensures plan { cursor_plan result ≡ plan.now }
         ensures processor { cursor_processor result ≡ processor }
     {
         Cursor {
-            turns: StyledTurns::new(program, plan, Style::Arrive, processor),
+            turns: Turns::new(program, plan, Style::Arrive, processor),
             begins: None,
         }
     }
 
     /// The loops round the instance that comes next, with their values.
     pub fn path(&self) -> &Path
-        ensures { rounds_of result.now ≡ styled_rounds self.now.turns }
+        ensures { rounds_of result.now ≡ turns_rounds self.now.turns }
     {
         self.turns.path()
     }
 
     /// The own scalars of the phase.
     pub fn own_cells(&self) -> &OwnCells
-        ensures { result.now ≡ styled_own self.now.turns }
+        ensures { result.now ≡ turns_own self.now.turns }
     {
         self.turns.own_cells()
     }
@@ -104,14 +104,14 @@ impl<'a> Cursor<'a> {
     }
 
     /// Past what comes next, where something does that is no beginning.
-    pub fn pass(&mut self, next: StyledNext<'a>)
+    pub fn pass(&mut self, next: Next<'a>)
         requires sound { IsCursor self.old }
         requires none { self.old.begins ≡ None }
-        requires next { IsStyledNext self.old.turns next }
+        requires next { IsNext self.old.turns next }
         requires some { IsTurn next }
         ensures sound { IsCursor self.new }
         ensures none { self.new.begins ≡ None }
-        ensures passed { (t : StyledTurn) × (cursor_turns self.old ≡ t ∷ cursor_turns self.new) }
+        ensures passed { (t : Turn) × (cursor_turns self.old ≡ t ∷ cursor_turns self.new) }
         ensures plain { PassesPlainly self.old.turns self.new.turns next.entry }
         ensures same { IsSameCursor self.old self.new }
     {
@@ -128,11 +128,11 @@ impl<'a> Cursor<'a> {
         ensures left { MatchOption result (cursor_left self.new ≡ cursor_left self.old)
             (λ s. cursor_left self.old ≡ map works (strip_left s) ++ cursor_left self.new) }
         ensures turns { MatchOption result (cursor_turns self.new ≡ cursor_turns self.old)
-            (λ s. cursor_turns self.old ≡ map (runs (styled_place self.old.turns)) (strip_left s)
+            (λ s. cursor_turns self.old ≡ map (runs (turns_place self.old.turns)) (strip_left s)
             ++ cursor_turns self.new) }
         ensures some { IfSome result (λ s. 0 < length (strip_left s)) }
         ensures own { IfSome result (λ s. HasNoOwn (cursor_tree self.old) (cursor_plan self.old)
-            (styled_place self.old.turns)) }
+            (turns_place self.old.turns)) }
         ensures tree { IfSome result (λ s. strip_tree s ≡ cursor_tree self.new) }
         ensures same { IsSameCursor self.old self.new }
     {

@@ -11,9 +11,9 @@ ghost use Rattle.fork_join.specs.StoreLists.{AreKept, cells_of, entries_of};
 ghost use Rattle.fork_join.specs.SeenDeeds.{shared_deed};
 
 use crate::stores::Stores;
+use instance_runs::{Deeds, Progress};
 use nest_tree::Program;
 use own_cells::OWN_PLACES;
-use spmd_turns::{Deeds, Progress};
 use sync_plan::Plan;
 
 /// What one worker sees in a phase: memory as it was when the phase began, its own stores since,

@@ -6,14 +6,14 @@ ghost use Rattle.nest_tree.specs.View.{tree_of};
 ghost use Rattle.sync_plan.specs.declared.plan.Plan.{Plan};
 ghost use Rattle.spmd_model.specs.declared.style.Style.TheVariants.{Arrive};
 ghost use Rattle.spmd_model.specs.PlanProtocols.{printed_by, registers_by};
-ghost use Rattle.styled_turns.specs.StyledLeft.{styled_place};
+ghost use Rattle.turns.specs.TurnsLeft.{turns_place};
 ghost use Rattle.fork_join.specs.Joins.{all_deeds};
 ghost use Rattle.fork_join.specs.SeenDeeds.{phase_deed};
 ghost use Rattle.fork_join.specs.Workers.{IsCursorOf};
 
 use crate::cursor::Cursor;
 use crate::overlay::Overlay;
-use spmd_turns::Deeds;
+use instance_runs::Deeds;
 
 // What a worker sees in a phase, where an own scalar's cell is its own one; and its turns, which know
 // the own scalars.
@@ -29,7 +29,7 @@ impl Deeds for OwnOverlay<'_, '_, '_, '_> {
     ghost use Rattle.fork_join.specs.declared.cursor.Cursor.{Cursor};
 
     ghost left = { λ d. map (phase_deed (tree_of d.overlay.now.program.now) d.overlay.now.plan.now
-        (styled_place d.turns.now.turns) d.overlay.now.processor)
+        (turns_place d.turns.now.turns) d.overlay.now.processor)
         (drop d.overlay.now.done.done
         (all_deeds
         (tree_of d.overlay.now.program.now) d.overlay.now.plan.now d.overlay.now.processor)) };

@@ -6,11 +6,11 @@ ghost use Rattle.nest_walk.specs.Cursors.{visit_at};
 ghost use Rattle.owner_partition.specs.Phases.{phases};
 ghost use Rattle.spmd_model.specs.declared.style.Style.TheVariants.{Arrive};
 ghost use Rattle.spmd_model.specs.PlanProtocols.{printed_by, registers_by};
-ghost use Rattle.spmd_turns.specs.Executors.{Begins, CanExecute, executor_output, executor_room, executor_tree};
-ghost use Rattle.spmd_turns.specs.Rooms.{visit_room};
-ghost use Rattle.styled_turns.specs.StyledLeft.{styled_place, styled_rounds};
-ghost use Rattle.styled_turns.specs.declared.turns.NextOrPhase.{NextOrPhase};
-ghost use Rattle.styled_turns.specs.declared.turns.StyledNext.{StyledNext};
+ghost use Rattle.instance_runs.specs.Executors.{Begins, CanExecute, executor_output, executor_room, executor_tree};
+ghost use Rattle.instance_runs.specs.Rooms.{visit_room};
+ghost use Rattle.turns.specs.TurnsLeft.{turns_place, turns_rounds};
+ghost use Rattle.turns.specs.declared.turns.NextOrPhase.{NextOrPhase};
+ghost use Rattle.turns.specs.declared.turns.Next.{Next};
 ghost use Rattle.fork_join.specs.Cursors.{ComesNext, cursor_left};
 ghost use Rattle.fork_join.specs.Joins.{IsSafe, all_deeds};
 ghost use Rattle.fork_join.specs.SeenDeeds.{phase_deed};
@@ -19,9 +19,9 @@ ghost use Rattle.fork_join.specs.Workers.{HasExecuted, IsCursorOf, IsOverlay, Is
 use crate::cursor::Cursor;
 use crate::overlay::Overlay;
 use crate::own_overlay::OwnOverlay;
+use instance_runs::Executor;
 use nest_walk::Stop;
-use spmd_turns::Executor;
-use styled_turns::{NextOrPhase, StyledNext};
+use turns::{Next, NextOrPhase};
 
 /// All instances of a phase that come next, over these cells.
 pub(crate) fn execute<'a>(
@@ -98,11 +98,11 @@ fn execute_next<'a>(
     let NextOrPhase::Turn(next) = turns.peek() else {
         return false;
     };
-    let StyledNext::Work(stop) = next else {
+    let Next::Work(stop) = next else {
         return false;
     };
     execute_here(turns, executor, overlay, stop);
-    turns.pass(StyledNext::Work(stop));
+    turns.pass(Next::Work(stop));
     true
 }
 
@@ -118,7 +118,7 @@ fn execute_here<'a>(
     requires walks { IsWalking
         (tree_of overlay.old.program.now) overlay.old.plan.now overlay.old.behind
         overlay.old.processor overlay.old.done.done turns.now executor.old }
-    requires next { ComesNext turns.now (NextOrPhase.Turn (StyledNext.Work stop)) }
+    requires next { ComesNext turns.now (NextOrPhase.Turn (Next.Work stop)) }
     ensures kept { IsOverlay
         (tree_of overlay.old.program.now) overlay.old.plan.now overlay.old.behind
         overlay.old.processor overlay.old.memory.now overlay.new }
@@ -142,9 +142,9 @@ fn execute_own<'a>(
 )
     requires knows { IsCursorOf (tree_of overlay.old.program.now) overlay.old.plan.now turns.now }
     requires can { CanExecute executor.old }
-    requires begins { Begins (executor_tree executor.old) (styled_rounds turns.now.turns) stop
+    requires begins { Begins (executor_tree executor.old) (turns_rounds turns.now.turns) stop
         (map (phase_deed (tree_of overlay.old.program.now) overlay.old.plan.now
-        (styled_place turns.now.turns) overlay.old.processor)
+        (turns_place turns.now.turns) overlay.old.processor)
         (drop overlay.old.done.done
         (all_deeds (tree_of overlay.old.program.now) overlay.old.plan.now overlay.old.processor))) }
     requires idle { registers_by Arrive
@@ -155,18 +155,18 @@ fn execute_own<'a>(
         (tree_of overlay.old.program.now) overlay.old.plan.now overlay.old.processor
         overlay.old.done.done }
     requires room { length (executor_output executor.old) + visit_room (executor_tree executor.old)
-        (visit_at (executor_tree executor.old) (styled_rounds turns.now.turns) stop)
+        (visit_at (executor_tree executor.old) (turns_rounds turns.now.turns) stop)
         ≤ executor_room executor.old }
     ensures can { CanExecute executor.new }
     ensures program { executor_tree executor.new ≡ executor_tree executor.old }
     ensures left { (b : Begins (executor_tree executor.old)
-        (styled_rounds turns.now.turns) stop.entry
+        (turns_rounds turns.now.turns) stop.entry
         (map (phase_deed (tree_of overlay.old.program.now) overlay.old.plan.now
-        (styled_place turns.now.turns) overlay.old.processor)
+        (turns_place turns.now.turns) overlay.old.processor)
         (drop overlay.old.done.done
         (all_deeds (tree_of overlay.old.program.now) overlay.old.plan.now overlay.old.processor))))
         → map (phase_deed (tree_of overlay.new.program.now) overlay.new.plan.now
-        (styled_place turns.now.turns) overlay.new.processor)
+        (turns_place turns.now.turns) overlay.new.processor)
         (drop overlay.new.done.done
         (all_deeds (tree_of overlay.new.program.now) overlay.new.plan.now overlay.new.processor))
         ≡ b.rest }
@@ -180,7 +180,7 @@ fn execute_own<'a>(
     ensures room { executor_room executor.old ≤ executor_room executor.new }
     ensures grown { length (executor_output executor.new) ≤ length (executor_output executor.old)
         + visit_room (executor_tree executor.old) (visit_at (executor_tree executor.old)
-        (styled_rounds turns.now.turns) stop.entry) }
+        (turns_rounds turns.now.turns) stop.entry) }
     ensures kept { IsOverlay
         (tree_of overlay.old.program.now) overlay.old.plan.now overlay.old.behind
         overlay.old.processor overlay.old.memory.now overlay.new }

@@ -6,24 +6,24 @@ ghost use Rattle.nest_tree.specs.Tree.{param_values};
 ghost use Rattle.nest_tree.specs.View.{tree_of};
 ghost use Rattle.nest_walk.specs.Tables.{IsCellTable};
 ghost use Rattle.owner_partition.specs.Phases.{phases};
-ghost use Rattle.spmd_turns.specs.Executors.{executor_output};
-ghost use Rattle.spmd_turns.specs.Rooms.{longest_output};
+ghost use Rattle.instance_runs.specs.Executors.{executor_output};
+ghost use Rattle.instance_runs.specs.Rooms.{longest_output};
 ghost use Rattle.fork_join.specs.Joins.{IsSafe, begun, joined, protocol};
 
 use crate::cursor::Cursor;
 use crate::overlay::Overlay;
 use crate::stores::Stores;
 use crate::walk::execute;
+use instance_runs::{Executor, Progress};
 use nest_tree::Program;
 use nest_walk::CellTable;
 use own_cells::{OWN_PLACES, is_sum_place};
 use seq_meaning::Output;
 use spmd_ports::Gate;
-use spmd_turns::{Executor, Progress};
 use std::alloc::{AllocError, Global};
 use std::mem;
-use styled_turns::{NextOrPhase, StyledNext};
 use sync_plan::Plan;
+use turns::{Next, NextOrPhase};
 
 /// What all workers are lent: the program under its plan, its cells, and the values of its named
 /// constants.
@@ -52,8 +52,8 @@ pub(crate) struct Worker<'a> {
 
 impl<'a> Worker<'a> {
     ghost use Rattle.std.specs.Prelude.{nat_le, true, false};
-    ghost use Rattle.styled_turns.specs.declared.turns.NextOrPhase.{NextOrPhase};
-    ghost use Rattle.styled_turns.specs.declared.turns.StyledNext.{StyledNext};
+    ghost use Rattle.turns.specs.declared.turns.NextOrPhase.{NextOrPhase};
+    ghost use Rattle.turns.specs.declared.turns.Next.{Next};
     ghost use Rattle.fork_join.specs.Cursors.{ComesNext, IsShut, cursor_left, cursor_turns};
     ghost use Rattle.fork_join.specs.Workers.{HasBegun, HasWorked, IsAt, IsBeginning, IsClosing};
 
@@ -136,7 +136,7 @@ impl<'a> Worker<'a> {
     }
 
     // Past a post or an await at the boundary.
-    fn pass_wait(&mut self, behind: u64, next: StyledNext<'a>)
+    fn pass_wait(&mut self, behind: u64, next: Next<'a>)
         requires safe { IsSafe (tree_of self.old.program.now) self.old.plan.now }
         requires below { self.old.processor < self.old.plan.now.workers }
         requires at { IsBeginning
@@ -147,9 +147,9 @@ impl<'a> Worker<'a> {
         ensures nearer { length (cursor_left self.new.turns) < length (cursor_left self.old.turns) }
     {
         match next {
-            StyledNext::Post(_) | StyledNext::Await { .. } => self.turns.pass(next),
-            StyledNext::Signal(_) | StyledNext::AwaitSignal { .. } => unreachable!(),
-            StyledNext::Work(_) | StyledNext::Close(_) | StyledNext::End => unreachable!(),
+            Next::Post(_) | Next::Await { .. } => self.turns.pass(next),
+            Next::Signal(_) | Next::AwaitSignal { .. } => unreachable!(),
+            Next::Work(_) | Next::Close(_) | Next::End => unreachable!(),
         }
         self.done = self.done.further();
     }
@@ -228,7 +228,7 @@ impl<'a> Worker<'a> {
         let NextOrPhase::Turn(next) = self.turns.peek() else {
             return false;
         };
-        let StyledNext::Close(place) = next else {
+        let Next::Close(place) = next else {
             return false;
         };
         self.close(behind, place, memory);
@@ -242,7 +242,7 @@ impl<'a> Worker<'a> {
         requires closing { IsClosing
             (tree_of self.old.program.now) self.old.plan.now behind self.old.processor memory.old
             self.old }
-        requires next { ComesNext self.old.turns (NextOrPhase.Turn (StyledNext.Close place)) }
+        requires next { ComesNext self.old.turns (NextOrPhase.Turn (Next.Close place)) }
         ensures closing { IsClosing
             (tree_of self.old.program.now) self.old.plan.now behind self.old.processor memory.new
             self.new }
@@ -263,7 +263,7 @@ impl<'a> Worker<'a> {
         requires closing { IsClosing
             (tree_of self.old.program.now) self.old.plan.now behind self.old.processor memory.old
             self.old }
-        requires next { ComesNext self.old.turns (NextOrPhase.Turn (StyledNext.Close place)) }
+        requires next { ComesNext self.old.turns (NextOrPhase.Turn (Next.Close place)) }
         requires private { nat_le 16 place ≡ false }
         ensures closing { IsClosing
             (tree_of self.old.program.now) self.old.plan.now behind self.old.processor memory.new
@@ -274,7 +274,7 @@ impl<'a> Worker<'a> {
         let cell = self.turns.own_cells().cell(place) as usize;
         memory[cell] = self.own[place];
         self.done = self.done.further().further();
-        self.turns.pass(StyledNext::Close(place));
+        self.turns.pass(Next::Close(place));
     }
 
     // The closing of a sum scalar.
@@ -284,7 +284,7 @@ impl<'a> Worker<'a> {
         requires closing { IsClosing
             (tree_of self.old.program.now) self.old.plan.now behind self.old.processor memory.old
             self.old }
-        requires next { ComesNext self.old.turns (NextOrPhase.Turn (StyledNext.Close place)) }
+        requires next { ComesNext self.old.turns (NextOrPhase.Turn (Next.Close place)) }
         requires sum { nat_le 16 place ≡ true }
         ensures closing { IsClosing
             (tree_of self.old.program.now) self.old.plan.now behind self.old.processor memory.new
@@ -296,7 +296,7 @@ impl<'a> Worker<'a> {
         memory[cell] = memory[cell].wrapping_add(self.own[place]);
         self.own[place] = 0;
         self.done = self.done.further().further().further();
-        self.turns.pass(StyledNext::Close(place));
+        self.turns.pass(Next::Close(place));
     }
 
     /// Its output so far.

@@ -9,9 +9,9 @@ use Rattle.spmd_model.specs.Timelines.{Word, await, counter, signal, act_at}
 use Rattle.spmd_model.proofs.Counters.{awaited_post}
 use Rattle.spmd_model.proofs.MachineOrder.{sound_by}
 use Rattle.spmd_model.proofs.Deeds.{await_is}
-use Rattle.styled_turns.specs.StyledTurns.{StyledTurn, waits, styled_deeds}
-use Rattle.styled_turns.specs.StyledLeft.{styled_left, styled_plan, styled_processor, styled_tree}
-use Rattle.spmd_machine.specs.Machines.{IsReady, model_of, plan_in, style_in, tree_in}
+use Rattle.turns.specs.Turns.{Turn, waits, turn_deeds}
+use Rattle.turns.specs.TurnsLeft.{turns_left, turns_plan, turns_processor, turns_tree}
+use Rattle.spmd_machine.specs.Machines.{IsMachine, model_of, plan_in, style_in, tree_in}
 use Rattle.spmd_machine.specs.Processors.{IsKept, left_of, state_of}
 use Rattle.spmd_machine.specs.declared.machine.Machine.{Machine}
 use Rattle.spmd_machine.specs.declared.processor.Processor.{Processor}
@@ -19,15 +19,15 @@ use Rattle.spmd_machine.proofs.Kept.{left_idle, wait_idle}
 use Rattle.spmd_machine.proofs.Ready.{kept_here, worker_here}
 use Rattle.spmd_machine.proofs.Steps.{next_from}
 
-module _ (m : Machine) (ready : IsReady m) (p : ℕ) (x : Processor) (lt : p < length m.processors.items) (read : x ≡ get_or m.processors.items p x) (word : Word) (on wanted : ℕ) (rest : List StyledTurn) (next : styled_left x.turns ≡ waits word on wanted ∷ rest) where
+module _ (m : Machine) (ready : IsMachine m) (p : ℕ) (x : Processor) (lt : p < length m.processors.items) (read : x ≡ get_or m.processors.items p x) (word : Word) (on wanted : ℕ) (rest : List Turn) (next : turns_left x.turns ≡ waits word on wanted ∷ rest) where
   kept : IsKept (style_in m) (tree_in m) (plan_in m) (entries m.table) p x
   kept = kept_here m ready p x x lt read
 
   abbrev pub behind_it : List Deed
-  behind_it = flat_map (styled_deeds (styled_tree x.turns) (styled_plan x.turns) (styled_processor x.turns)) rest
+  behind_it = flat_map (turn_deeds (turns_tree x.turns) (turns_plan x.turns) (turns_processor x.turns)) rest
 
   pub await_left : left_of x ≡ awaiting word on wanted ∷ behind_it
-  await_left = left_idle x (wait_idle (style_in m) (tree_in m) (plan_in m) (entries m.table) p x kept word on wanted rest next).none_done ∙ ap (flat_map (styled_deeds (styled_tree x.turns) (styled_plan x.turns) (styled_processor x.turns))) next
+  await_left = left_idle x (wait_idle (style_in m) (tree_in m) (plan_in m) (entries m.table) p x kept word on wanted rest next).none_done ∙ ap (flat_map (turn_deeds (turns_tree x.turns) (turns_plan x.turns) (turns_processor x.turns))) next
 
   -- it awaits a processor
   pub awaits_processor : on < length m.processors.items

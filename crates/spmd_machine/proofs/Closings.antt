@@ -16,13 +16,13 @@ use Rattle.spmd_model.specs.Closings.{given_first}
 use Rattle.spmd_model.specs.Deeds.{Deed, loading, storing, adding}
 use Rattle.spmd_model.specs.Quiet.{quiet_next}
 use Rattle.spmd_model.specs.MachineDeeds.{keeping_deeds, totalling_deeds}
-use Rattle.styled_turns.specs.StyledTurns.{StyledTurn, closes, close_deeds, scalar_at, styled_deeds}
-use Rattle.styled_turns.specs.StyledLeft.{AreStyled, ShowsClosing, styled_left, styled_plan, styled_processor, styled_style, styled_tree}
-use Rattle.styled_turns.specs.declared.turns.StyledNext.TheVariants.{Close}
-use Rattle.styled_turns.specs.declared.turns.StyledTurns.{StyledTurns}
-use Rattle.styled_turns.proofs.OwnPlaces.{scalar_below, shared_there}
-use Rattle.spmd_machine.specs.Machines.{ComesNext, IsReady, StepsTo, model_of, plan_in, shared_in, shown, style_in, tree_in}
-use Rattle.spmd_machine.specs.Processors.{IsFoundNext, IsBegun, IsClosing, IsKept, PassesTurn, all_of, deeds_left, is_styled_inside, left_of, memory_of}
+use Rattle.turns.specs.Turns.{Turn, closes, close_deeds, scalar_at, turn_deeds}
+use Rattle.turns.specs.TurnsLeft.{AreSound, ShowsClosing, turns_left, turns_plan, turns_processor, turns_style, turns_tree}
+use Rattle.turns.specs.declared.turns.Next.TheVariants.{Close}
+use Rattle.turns.specs.declared.turns.Turns.{Turns}
+use Rattle.turns.proofs.OwnPlaces.{scalar_below, shared_there}
+use Rattle.spmd_machine.specs.Machines.{ComesNext, IsMachine, StepsTo, model_of, plan_in, shared_in, shown, style_in, tree_in}
+use Rattle.spmd_machine.specs.Processors.{IsFoundNext, IsBegun, IsClosing, IsKept, PassesTurn, all_of, deeds_left, is_turn_inside, left_of, memory_of}
 use Rattle.spmd_machine.specs.declared.answer.StepAnswer.TheVariants.{Stepped}
 use Rattle.spmd_machine.specs.declared.machine.Machine.{Machine}
 use Rattle.spmd_machine.specs.declared.processor.Processor.{Processor}
@@ -34,17 +34,17 @@ use Rattle.spmd_machine.proofs.Ready.{kept_here, next_here, steps, worker_here}
 use Rattle.spmd_machine.proofs.Steps.{registers_read, same_counters, same_signals}
 use Rattle.spmd_machine.proofs.Suffixes.{suffix_rest}
 
-module _ (m : Machine) (ready : IsReady m) (p : ℕ) (x : Processor) (lt : p < length m.processors.items) (read : x ≡ get_or m.processors.items p x) (k : ℕ) (next : ComesNext m p (Close k)) where
+module _ (m : Machine) (ready : IsMachine m) (p : ℕ) (x : Processor) (lt : p < length m.processors.items) (read : x ≡ get_or m.processors.items p x) (k : ℕ) (next : ComesNext m p (Close k)) where
   kept : IsKept (style_in m) (tree_in m) (plan_in m) (entries m.table) p x
   kept = kept_here m ready p x x lt read
 
   shows : ShowsClosing x.turns k
   shows = (next_here m ready p x x lt read (Close k) next).1
 
-  rest : List StyledTurn
+  rest : List Turn
   rest = (next_here m ready p x x lt read (Close k) next).0.0
 
-  turns_are : styled_left x.turns ≡ closes x.turns.place k ∷ rest
+  turns_are : turns_left x.turns ≡ closes x.turns.place k ∷ rest
   unfolding rest
   turns_are = (next_here m ready p x x lt read (Close k) next).0.1
 
@@ -62,25 +62,25 @@ module _ (m : Machine) (ready : IsReady m) (p : ℕ) (x : Processor) (lt : p < l
   deeds = close_deeds (tree_in m) (plan_in m) p x.turns.place k
 
   pub behind_it : List Deed
-  behind_it = flat_map (styled_deeds (tree_in m) (plan_in m) p) rest
+  behind_it = flat_map (turn_deeds (tree_in m) (plan_in m) p) rest
 
-  turn_deeds_are : (c : StyledTurns) (n : ℕ) (ts : List StyledTurn) → styled_tree c ≡ tree_in m → styled_plan c ≡ plan_in m → styled_processor c ≡ p →
-      drop n (flat_map (styled_deeds (styled_tree c) (styled_plan c) (styled_processor c)) ts) ≡ drop n (flat_map (styled_deeds (tree_in m) (plan_in m) p) ts)
+  turn_deeds_are : (c : Turns) (n : ℕ) (ts : List Turn) → turns_tree c ≡ tree_in m → turns_plan c ≡ plan_in m → turns_processor c ≡ p →
+      drop n (flat_map (turn_deeds (turns_tree c) (turns_plan c) (turns_processor c)) ts) ≡ drop n (flat_map (turn_deeds (tree_in m) (plan_in m) p) ts)
   turn_deeds_are c n ts t q j =
-      ap (λ (w : Tree). drop n (flat_map (styled_deeds w (styled_plan c) (styled_processor c)) ts)) t ∙ ap (λ (r : Plan). drop n (flat_map (styled_deeds (tree_in m) r (styled_processor c)) ts)) q
-      ∙ ap (λ i. drop n (flat_map (styled_deeds (tree_in m) (plan_in m) i) ts)) j
+      ap (λ (w : Tree). drop n (flat_map (turn_deeds w (turns_plan c) (turns_processor c)) ts)) t ∙ ap (λ (r : Plan). drop n (flat_map (turn_deeds (tree_in m) r (turns_processor c)) ts)) q
+      ∙ ap (λ i. drop n (flat_map (turn_deeds (tree_in m) (plan_in m) i) ts)) j
 
   left_by : (y : Processor) (n : ℕ) → y.turns ≡ x.turns → y.done ≡ n → left_of y ≡ drop n (deeds ++ behind_it)
   unfolding left_of behind_it
   left_by y n turns done =
-      ap (λ j. drop j (deeds_left y.turns)) done ∙ ap (λ (c : StyledTurns). drop n (deeds_left c)) turns ∙ turn_deeds_are x.turns n (styled_left x.turns) kept.program kept.plan_is kept.processor
-      ∙ ap (λ ts. drop n (flat_map (styled_deeds (tree_in m) (plan_in m) p) ts)) turns_are
+      ap (λ j. drop j (deeds_left y.turns)) done ∙ ap (λ (c : Turns). drop n (deeds_left c)) turns ∙ turn_deeds_are x.turns n (turns_left x.turns) kept.program kept.plan_is kept.processor
+      ∙ ap (λ ts. drop n (flat_map (turn_deeds (tree_in m) (plan_in m) p) ts)) turns_are
 
-  left_past : (y : Processor) (t : StyledTurn) → PassesTurn x y t → left_of y ≡ behind_it
+  left_past : (y : Processor) (t : Turn) → PassesTurn x y t → left_of y ≡ behind_it
   unfolding left_of behind_it
   left_past y t passes =
-      ap (λ j. drop j (deeds_left y.turns)) passes.idle.none_done ∙ turn_deeds_are y.turns 0 (styled_left y.turns) (passes.program ∙ kept.program) (passes.plan_is ∙ kept.plan_is) (passes.processor ∙ kept.processor)
-      ∙ ap (flat_map (styled_deeds (tree_in m) (plan_in m) p)) (sym (first_is (styled_left x.turns) (closes x.turns.place k) t rest (styled_left y.turns) turns_are passes.turns).1)
+      ap (λ j. drop j (deeds_left y.turns)) passes.idle.none_done ∙ turn_deeds_are y.turns 0 (turns_left y.turns) (passes.program ∙ kept.program) (passes.plan_is ∙ kept.plan_is) (passes.processor ∙ kept.processor)
+      ∙ ap (flat_map (turn_deeds (tree_in m) (plan_in m) p)) (sym (first_is (turns_left x.turns) (closes x.turns.place k) t rest (turns_left y.turns) turns_are passes.turns).1)
 
   keeps : k < 16 → deeds ≡ keeping_deeds from to
   keeps small = ap (λ b. if b then keeping_deeds from to else totalling_deeds from to) (lt-ltb k 16 small)
@@ -95,12 +95,12 @@ module _ (m : Machine) (ready : IsReady m) (p : ℕ) (x : Processor) (lt : p < l
   pub to_there : shared_cell x.turns.own k ≡ Some to
   to_there =
       subst (λ (q : Plan). shared_cell x.turns.own k ≡ Some (first_cell (tree_in m) (scalar_at (own_loop (tree_in m) q x.turns.place) k))) kept.plan_is
-      (subst (λ (w : Tree). shared_cell x.turns.own k ≡ Some (first_cell w (scalar_at (own_loop w (styled_plan x.turns) x.turns.place) k))) kept.program (shared_there x.turns kept.sound k shows))
+      (subst (λ (w : Tree). shared_cell x.turns.own k ≡ Some (first_cell w (scalar_at (own_loop w (turns_plan x.turns) x.turns.place) k))) kept.program (shared_there x.turns kept.sound k shows))
 
   pub to_below : to < cell_count (tree_in m)
   to_below =
       subst (λ (q : Plan). first_cell (tree_in m) (scalar_at (own_loop (tree_in m) q x.turns.place) k) < cell_count (tree_in m)) kept.plan_is
-      (subst (λ (w : Tree). first_cell w (scalar_at (own_loop w (styled_plan x.turns) x.turns.place) k) < cell_count w) kept.program (scalar_below x.turns kept.sound k shows))
+      (subst (λ (w : Tree). first_cell w (scalar_at (own_loop w (turns_plan x.turns) x.turns.place) k) < cell_count w) kept.program (scalar_below x.turns kept.sound k shows))
 
   pub to_is : (o : OwnCells) (n : ℕ) → o ≡ x.turns.own → shared_cell o k ≡ Some n → n ≡ to
   to_is o n same there = let both : Some n ≡ Some to = sym there ∙ ap (λ (q : OwnCells). shared_cell q k) same ∙ to_there in cc
@@ -183,17 +183,17 @@ module _ (m : Machine) (ready : IsReady m) (p : ℕ) (x : Processor) (lt : p < l
 
   stays_kept : (y : Processor) (n : ℕ) (d : Deed) → StaysAt y n → left_of x ≡ d ∷ left_of y → IsKept (style_in m) (tree_in m) (plan_in m) (entries m.table) p y
   stays_kept y n d s left =
-      let turns = ap styled_left s.turns in
+      let turns = ap turns_left s.turns in
       record {
-        sound = subst AreStyled (sym s.turns) kept.sound;
-        program = ap styled_tree s.turns ∙ kept.program;
-        plan_is = ap styled_plan s.turns ∙ kept.plan_is;
-        processor = ap styled_processor s.turns ∙ kept.processor;
-        style_is = ap styled_style s.turns ∙ kept.style_is;
+        sound = subst AreSound (sym s.turns) kept.sound;
+        program = ap turns_tree s.turns ∙ kept.program;
+        plan_is = ap turns_plan s.turns ∙ kept.plan_is;
+        processor = ap turns_processor s.turns ∙ kept.processor;
+        style_is = ap turns_style s.turns ∙ kept.style_is;
         behind = suffix_rest (all_of (style_in m) (tree_in m) (plan_in m) p) (left_of x) (left_of y) d kept.behind left;
         instance = subst (λ c. IsFoundNext c y.found) (sym s.turns) (subst (IsFoundNext x.turns) (sym s.instance) kept.instance);
         begun = subst (λ ts. IsBegun (entries m.table) ts y) (sym (turns ∙ turns_are)) s.closing;
-        inside = ap (list_all (is_styled_inside (tree_in m))) turns ∙ kept.inside;
+        inside = ap (list_all (is_turn_inside (tree_in m))) turns ∙ kept.inside;
         own_cells = ap length s.own_cells ∙ kept.own_cells;
         room = λ i w there. omega (arith, kept.room i w there, s.capacity);
         room_to_close = omega (arith, kept.room_to_close, s.capacity);
@@ -207,7 +207,7 @@ module _ (m : Machine) (ready : IsReady m) (p : ℕ) (x : Processor) (lt : p < l
       let (tail, left, tail_is) = left_none none in
       let left_y = left ∙ ap (λ ds. loading from ∷ ds) (tail_is ∙ sym (left_by y 1 s.turns s.done)) in
       let now = stays_kept y 1 (loading from) s left_y in
-      let room = same_room (tree_in m) x y (ap styled_left s.turns) in
+      let room = same_room (tree_in m) x y (ap turns_left s.turns) in
       let value = own_value m.processors.items m.memory.items p x lt read (cell_count (tree_in m)) k (have_own m ready) ready.cells shows.small in
       steps m ready p x y lt read m.loops m.memory m.output (loading from) now refl refl (omega (arith, room)) (omega arith)
       (record {
@@ -230,7 +230,7 @@ module _ (m : Machine) (ready : IsReady m) (p : ℕ) (x : Processor) (lt : p < l
       let worker = worker_here m ready p x x lt read in
       let left = left_total big one ∙ ap (λ ds. adding to given_first ∷ ds) (sym (left_clear y big s.turns s.done)) in
       let now = stays_kept y 2 (adding to given_first) s left in
-      let room = same_room (tree_in m) x y (ap styled_left s.turns) in
+      let room = same_room (tree_in m) x y (ap turns_left s.turns) in
       let in_shared : to < length m.memory.items = omega (arith, below, ready.cells) in
       let given = ap given_first (registers_read (style_in m) (tree_in m) (plan_in m) ready.formed ready.fits (entries m.table) m.processors.items m.memory.items m.output.bytes p worker x lt read here ∙ loaded) in
       let old = shared_value m.processors.items m.memory.items p x lt read to in_shared in
@@ -251,7 +251,7 @@ module _ (m : Machine) (ready : IsReady m) (p : ℕ) (x : Processor) (lt : p < l
   -- ---- steps past the turn
 
   -- the value is stored to the shared cell
-  pub total_kept : (y : Processor) (t : StyledTurn) (v : ℤ) (memory : Vec ℤ Global) → k < 16 → x.done ≡ 1 → x.registers.items ≡ v ∷ [] → to < cell_count (tree_in m) → PassesTurn x y t → y.own ≡ x.own → y.counter ≡ x.counter → y.signal ≡ x.signal →
+  pub total_kept : (y : Processor) (t : Turn) (v : ℤ) (memory : Vec ℤ Global) → k < 16 → x.done ≡ 1 → x.registers.items ≡ v ∷ [] → to < cell_count (tree_in m) → PassesTurn x y t → y.own ≡ x.own → y.counter ≡ x.counter → y.signal ≡ x.signal →
       memory.items ≡ set m.memory.items to v → StepsTo m (record m { processors = with_item m.processors p y; memory = memory }) p Stepped
   total_kept y t v memory small one loaded below passes own counter signal is =
       let here = kept_here m ready p x y lt read in
@@ -275,7 +275,7 @@ module _ (m : Machine) (ready : IsReady m) (p : ℕ) (x : Processor) (lt : p < l
       })
 
   -- 0 is stored to the own cell behind an addition
-  pub total_cleared : (y : Processor) (t : StyledTurn) → 16 ≤ k → x.done ≡ 2 → PassesTurn x y t → y.own ≡ set x.own k (pos 0) → y.counter ≡ x.counter → y.signal ≡ x.signal → StepsTo m (record m { processors = with_item m.processors p y }) p Stepped
+  pub total_cleared : (y : Processor) (t : Turn) → 16 ≤ k → x.done ≡ 2 → PassesTurn x y t → y.own ≡ set x.own k (pos 0) → y.counter ≡ x.counter → y.signal ≡ x.signal → StepsTo m (record m { processors = with_item m.processors p y }) p Stepped
   total_cleared y t big two passes own counter signal =
       let here = kept_here m ready p x y lt read in
       let worker = worker_here m ready p x x lt read in

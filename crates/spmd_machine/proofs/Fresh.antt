@@ -18,18 +18,18 @@ use Rattle.sync_plan.specs.declared.plan.Plan.{Plan}
 use Rattle.spmd_model.specs.States.{State, first_state}
 use Rattle.spmd_model.specs.Machines.{machine_by}
 use Rattle.spmd_model.specs.declared.style.Style.{Style}
-use Rattle.spmd_model.proofs.MachineDeeds.{styled_deeds as acts_do}
+use Rattle.spmd_model.proofs.MachineDeeds.{acts_do}
 use Rattle.spmd_model.proofs.StateAt.{same_state}
-use Rattle.spmd_turns.specs.Loads.{AreWide, widths}
-use Rattle.spmd_turns.specs.Rooms.{longest_output, turn_room}
-use Rattle.spmd_turns.specs.Turns.{is_turn_inside, turns_from}
-use Rattle.spmd_turns.proofs.PhaseSums.{all_inside, rooms_below}
-use Rattle.styled_turns.specs.StyledTurns.{first_standing, styled_deeds, styled_room}
-use Rattle.styled_turns.specs.StyledLeft.{styled_left, styled_plan, styled_processor}
-use Rattle.styled_turns.proofs.StyledRooms.{styled_rooms, styled_runs}
-use Rattle.styled_turns.proofs.TurnsAct.{turns_act}
+use Rattle.instance_runs.specs.Loads.{AreWide, widths}
+use Rattle.instance_runs.specs.Rooms.{longest_output}
+use Rattle.turns.specs.CounterTurns.{counter_room, is_counter_inside, counter_turns}
+use Rattle.turns.proofs.PhaseSums.{all_inside, rooms_below}
+use Rattle.turns.specs.Turns.{first_standing, turn_deeds, turn_room}
+use Rattle.turns.specs.TurnsLeft.{turns_left, turns_plan, turns_processor}
+use Rattle.turns.proofs.TurnRooms.{turn_rooms, turn_runs}
+use Rattle.turns.proofs.TurnsAct.{turns_act}
 use Rattle.spmd_machine.specs.Machines.{IsReached}
-use Rattle.spmd_machine.specs.Processors.{IsFoundNext, IsFresh, IsKept, all_of, is_styled_inside, left_of, position_of, room_of, state_of}
+use Rattle.spmd_machine.specs.Processors.{IsFoundNext, IsFresh, IsKept, all_of, is_turn_inside, left_of, position_of, room_of, state_of}
 use Rattle.spmd_machine.specs.declared.processor.Processor.{Processor}
 use Rattle.spmd_machine.proofs.Kept.{idle_begun, left_idle}
 
@@ -56,17 +56,17 @@ module _ (style : Style) (tree : Tree) (plan : Plan) (size : ℕ) (formed : IsWe
   fresh_left : (p : ℕ) (x : Processor) → p < plan.workers → IsFresh style tree plan size p x → left_of x ≡ all_of style tree plan p
   unfolding all_of
   fresh_left p x worker f =
-      left_idle x f.idle.none_done ∙ ap (λ (w : Tree). flat_map (styled_deeds w (styled_plan x.turns) (styled_processor x.turns)) (styled_left x.turns)) f.program
-      ∙ ap (λ (q : Plan). flat_map (styled_deeds tree q (styled_processor x.turns)) (styled_left x.turns)) f.plan_is ∙ ap (λ n. flat_map (styled_deeds tree plan n) (styled_left x.turns)) f.processor
-      ∙ ap (flat_map (styled_deeds tree plan p)) f.turns ∙ turns_act style tree plan p formed limits fits ranges worker ∙ acts_do style tree plan p formed fits worker
+      left_idle x f.idle.none_done ∙ ap (λ (w : Tree). flat_map (turn_deeds w (turns_plan x.turns) (turns_processor x.turns)) (turns_left x.turns)) f.program
+      ∙ ap (λ (q : Plan). flat_map (turn_deeds tree q (turns_processor x.turns)) (turns_left x.turns)) f.plan_is ∙ ap (λ n. flat_map (turn_deeds tree plan n) (turns_left x.turns)) f.processor
+      ∙ ap (flat_map (turn_deeds tree plan p)) f.turns ∙ turns_act style tree plan p formed limits fits ranges worker ∙ acts_do style tree plan p formed fits worker
 
   fresh_position : (p : ℕ) (x : Processor) → p < plan.workers → IsFresh style tree plan size p x → position_of style tree plan x ≡ 0
   unfolding position_of
   fresh_position p x worker f = let left = fresh_left p x worker f in omega (arith, ap length left, ap (λ n. length (all_of style tree plan n)) f.processor)
 
-  fresh_room : (p : ℕ) (x : Processor) → IsFresh style tree plan size p x → room_of tree x ≡ sum_by (turn_room tree) (turns_from tree plan p 1 (phases tree plan.cut.marks))
+  fresh_room : (p : ℕ) (x : Processor) → IsFresh style tree plan size p x → room_of tree x ≡ sum_by (counter_room tree) (counter_turns tree plan p 1 (phases tree plan.cut.marks))
   unfolding room_of
-  fresh_room p x f = ap (sum_by (styled_room tree)) f.turns ∙ styled_rooms style tree plan p first_standing (turns_from tree plan p 1 (phases tree plan.cut.marks))
+  fresh_room p x f = ap (sum_by (turn_room tree)) f.turns ∙ turn_rooms style tree plan p first_standing (counter_turns tree plan p 1 (phases tree plan.cut.marks))
 
   pub kept_fresh : (entries : List WorkCells) (p : ℕ) (x : Processor) → p < plan.workers → AreWide entries → list_all (is_instance_inside tree) (instances tree) ≡ true → ((n : ℕ) (cells : WorkCells) → slice_get entries n ≡ Some cells → widths cells.loads.items ≤ size) → 1 ≤ size → IsFresh style tree plan size p x →
       IsKept style tree plan entries p x
@@ -78,8 +78,8 @@ module _ (style : Style) (tree : Tree) (plan : Plan) (size : ℕ) (formed : IsWe
     style_is = f.style_is;
     behind = record { front = []; is = sym (fresh_left p x worker f) };
     instance = subst (IsFoundNext x.turns) (sym f.none_found) tt;
-    begun = idle_begun entries wide (styled_left x.turns) x f.idle;
-    inside = ap (list_all (is_styled_inside tree)) f.turns ∙ styled_runs style tree plan p (is_instance_inside tree) (is_turn_inside tree) (λ n. refl) (λ on n. refl) (λ e. refl) (λ i. refl) first_standing (turns_from tree plan p 1 (phases tree plan.cut.marks)) ∙ all_inside tree plan p inside;
+    begun = idle_begun entries wide (turns_left x.turns) x f.idle;
+    inside = ap (list_all (is_turn_inside tree)) f.turns ∙ turn_runs style tree plan p (is_instance_inside tree) (is_counter_inside tree) (λ n. refl) (λ on n. refl) (λ e. refl) (λ i. refl) first_standing (counter_turns tree plan p 1 (phases tree plan.cut.marks)) ∙ all_inside tree plan p inside;
     own_cells = ap length f.own_cells ∙ length-replicate 32 (pos 0);
     room = λ n cells at. omega (arith, most n cells at, f.room);
     room_to_close = omega (arith, some, f.room);
@@ -88,9 +88,9 @@ module _ (style : Style) (tree : Tree) (plan : Plan) (size : ℕ) (formed : IsWe
   module _ (ps : List Processor) (count : length ps ≡ plan.workers) (fresh : (p : ℕ) (d : Processor) → p < length ps → IsFresh style tree plan size p (get_or ps p d)) where
     pub fresh_rooms : sum_by (room_of tree) ps ≤ longest_output tree
     fresh_rooms =
-        let each = same_sums (room_of tree) (λ p. sum_by (turn_room tree) (turns_from tree plan p 1 (phases tree plan.cut.marks))) ps 0
-        (λ p d lt. fresh_room p (get_or ps p d) (fresh p d lt) ∙ ap (λ n. sum_by (turn_room tree) (turns_from tree plan n 1 (phases tree plan.cut.marks))) (omega arith)) in
-        omega (arith, each, ap (λ n. sum_by (λ p. sum_by (turn_room tree) (turns_from tree plan p 1 (phases tree plan.cut.marks))) (range_with_len 0 n)) count, rooms_below tree plan)
+        let each = same_sums (room_of tree) (λ p. sum_by (counter_room tree) (counter_turns tree plan p 1 (phases tree plan.cut.marks))) ps 0
+        (λ p d lt. fresh_room p (get_or ps p d) (fresh p d lt) ∙ ap (λ n. sum_by (counter_room tree) (counter_turns tree plan n 1 (phases tree plan.cut.marks))) (omega arith)) in
+        omega (arith, each, ap (λ n. sum_by (λ p. sum_by (counter_room tree) (counter_turns tree plan p 1 (phases tree plan.cut.marks))) (range_with_len 0 n)) count, rooms_below tree plan)
 
     pub first_is : (memory : List ℤ) (output : List ℕ) → memory ≡ replicate (cell_count tree) (pos 0) → output ≡ [] → state_of style tree plan ps memory output ≡ first_state (machine_by style tree plan)
     first_is memory output zeros none =

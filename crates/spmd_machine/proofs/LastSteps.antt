@@ -44,14 +44,14 @@ use Rattle.seq_meaning.proofs.Found.{Found}
 use Rattle.seq_meaning.proofs.RunSteps.{assign_same, assign_valued, code_room, items_loads-length, numbered_more, placed-good, store_within, texts_same, texts_there, only_one}
 use Rattle.seq_meaning.proofs.TextAssigns.{text-code, text-high, text-low}
 use Rattle.spmd_model.specs.Deeds.{last_deed, printing, storing}
-use Rattle.spmd_machine.specs.Machines.{ComesNext, IsReady, LoadsNext, StepsTo, plan_in, style_in, tree_in}
+use Rattle.spmd_machine.specs.Machines.{ComesNext, IsMachine, LoadsNext, StepsTo, plan_in, style_in, tree_in}
 use Rattle.spmd_machine.specs.Processors.{IsKept, PassesTurn, left_of, memory_of, room_of}
-use Rattle.styled_turns.specs.StyledTurns.{StyledTurn, runs, styled_room}
-use Rattle.styled_turns.specs.StyledLeft.{styled_left, styled_path}
+use Rattle.turns.specs.Turns.{Turn, runs, turn_room}
+use Rattle.turns.specs.TurnsLeft.{turns_left, turns_path}
 use Rattle.spmd_machine.specs.declared.answer.StepAnswer.TheVariants.{Stepped}
 use Rattle.spmd_machine.specs.declared.machine.Machine.{Machine}
 use Rattle.spmd_machine.specs.declared.processor.Processor.{Processor}
-use Rattle.styled_turns.specs.declared.turns.StyledNext.TheVariants.{Work as Working}
+use Rattle.turns.specs.declared.turns.Next.TheVariants.{Work as Working}
 use Rattle.spmd_machine.proofs.Kept.{first_is, passed_kept, picked, room_passed}
 use Rattle.spmd_machine.proofs.LoadSteps.{few_here, have_own, high, inst, kept, loads_here, low, rest, turns_are}
 use Rattle.spmd_machine.proofs.Ready.{kept_here, steps, worker_here}
@@ -60,12 +60,12 @@ use Rattle.spmd_machine.proofs.OwnMemory.{same_memory}
 use Rattle.spmd_machine.proofs.Steps.{registers_read, same_counters, same_signals}
 use Rattle.spmd_machine.proofs.Works as here
 
-module _ (m : Machine) (ready : IsReady m) (p : ℕ) (x : Processor) (lt : p < length m.processors.items) (read : x ≡ get_or m.processors.items p x) (stop : Stop) (next : ComesNext m p (Working stop)) where
+module _ (m : Machine) (ready : IsMachine m) (p : ℕ) (x : Processor) (lt : p < length m.processors.items) (read : x ≡ get_or m.processors.items p x) (stop : Stop) (next : ComesNext m p (Working stop)) where
   abbrev tree : Tree
   tree = tree_in m
 
   abbrev rounds : List Round
-  rounds = rounds_of (styled_path x.turns)
+  rounds = rounds_of (turns_path x.turns)
 
   own : IsKept (style_in m) (tree_in m) (plan_in m) (entries m.table) p x
   own = kept m ready p x lt read stop next
@@ -73,7 +73,7 @@ module _ (m : Machine) (ready : IsReady m) (p : ℕ) (x : Processor) (lt : p < l
   abbrev i : Instance
   i = (inst m ready p x lt read stop next).instance
 
-  turns_is : styled_left x.turns ≡ runs x.turns.place i ∷ rest m ready p x lt read stop next
+  turns_is : turns_left x.turns ≡ runs x.turns.place i ∷ rest m ready p x lt read stop next
   turns_is = turns_are m ready p x lt read stop next
 
   abbrev at_own : ℕ → ℕ
@@ -98,7 +98,7 @@ module _ (m : Machine) (ready : IsReady m) (p : ℕ) (x : Processor) (lt : p < l
   numbers_there n same = numbered_more (loops_of tree.items) n rounds (omega (arith, same, ready.loops)) placed.numbered
 
   good : is_good_work (scope_of tree) (numbers_of rounds) placed.what ≡ true
-  good = placed-good tree (styled_path x.turns) stop.first (statement_of stop.item.now) placed ready.formed
+  good = placed-good tree (turns_path x.turns) stop.first (statement_of stop.item.now) placed ready.formed
 
   -- the table has its cells
   pub cells_there : (cells : WorkCells) × (slice_get (entries m.table) (stop.first - 1) ≡ Some cells)
@@ -114,11 +114,11 @@ module _ (m : Machine) (ready : IsReady m) (p : ℕ) (x : Processor) (lt : p < l
     count : length (loads_of tree i) ≡ length x.registers.items
     count = here.loads_done m ready p x own stop (inst m ready p x lt read stop next) (rest m ready p x lt read stop next) turns_is cells at over ∙ sym (here.loaded_count m ready p x own stop (inst m ready p x lt read stop next) (rest m ready p x lt read stop next) turns_is cells at)
 
-    found : Found tree (styled_path x.turns) placed.numbered placed.what cells
+    found : Found tree (turns_path x.turns) placed.numbered placed.what cells
     unfolding placed
     found = here.found m ready p x own stop (inst m ready p x lt read stop next) (rest m ready p x lt read stop next) turns_is cells at
 
-    left_is : (y : Processor) (t : StyledTurn) → PassesTurn x y t → left_of x ≡ last_deed (option_map at_own (store_of tree i)) false (assigned_value tree i) (line_of tree i) ∷ left_of y
+    left_is : (y : Processor) (t : Turn) → PassesTurn x y t → left_of x ≡ last_deed (option_map at_own (store_of tree i)) false (assigned_value tree i) (line_of tree i) ∷ left_of y
     left_is y t passes = here.left_last m ready p x own stop (inst m ready p x lt read stop next) (rest m ready p x lt read stop next) turns_is cells at over y t passes.program passes.plan_is passes.processor passes.turns passes.idle.none_done
 
     table_store : (o : Option CellForm) → cells.store ≡ o → map (λ f. cell_at f (by_depth rounds)) (option_to_list o) ≡ option_to_list (store_of tree i)
@@ -129,7 +129,7 @@ module _ (m : Machine) (ready : IsReady m) (p : ℕ) (x : Processor) (lt : p < l
     table_stores f stored k values k_is depth = only_one (store_of tree i) k (ap (λ n. n ∷ []) (k_is ∙ ap (cell_at f) depth) ∙ table_store (Some f) stored)
 
     pub table_below : (f : CellForm) → cells.store ≡ Some f → (k : ℕ) (values : List ℤ) → k ≡ cell_at f values → values ≡ by_depth rounds → k < cell_count tree
-    table_below f stored k values k_is depth = omega (arith, store_within tree (styled_path x.turns) stop.first (statement_of stop.item.now) placed cells found f values m.memory.items k stored k_is depth ready.cells, ready.cells)
+    table_below f stored k values k_is depth = omega (arith, store_within tree (turns_path x.turns) stop.first (statement_of stop.item.now) placed cells found f values m.memory.items k stored k_is depth ready.cells, ready.cells)
 
     -- a cell that it stores to is one of the program
     pub stored_below : (k : ℕ) → store_of tree i ≡ Some k → k < cell_count tree
@@ -205,7 +205,7 @@ module _ (m : Machine) (ready : IsReady m) (p : ℕ) (x : Processor) (lt : p < l
         own_size y after v None (to_shared owns is) = ap (λ (l : List ℤ). length l) owns ∙ own.own_cells
         own_size y after v (Some n) (to_own owns is) = ap (λ (l : List ℤ). length l) owns ∙ length-set x.own n v ∙ own.own_cells
 
-        pub store_steps : (y : Processor) (t : StyledTurn) (v : ℤ) (ls ps given : List ℤ) (loops memory : Vec ℤ Global) (slot : Option ℕ) → PassesTurn x y t → y.counter ≡ x.counter → y.signal ≡ x.signal →
+        pub store_steps : (y : Processor) (t : Turn) (v : ℤ) (ls ps given : List ℤ) (loops memory : Vec ℤ Global) (slot : Option ℕ) → PassesTurn x y t → y.counter ≡ x.counter → y.signal ≡ x.signal →
             (own_of tree (plan_in m) x.turns.place).slot k ≡ slot → Stores x y m.memory.items memory.items k v slot →
             v ≡ value_of (expression_of e) ls ps given → ls ≡ with_rounds m.loops.items rounds → ps ≡ m.params.items → given ≡ x.registers.items → loops.items ≡ with_rounds m.loops.items rounds →
             StepsTo m (record m { processors = with_item m.processors p y; loops = loops; memory = memory }) p Stepped
@@ -257,9 +257,9 @@ module _ (m : Machine) (ready : IsReady m) (p : ℕ) (x : Processor) (lt : p < l
       longest : longest_line tree i.what ≡ longest_items tree (map printed_of items) + 1
       longest = ap (λ (j : Instance). longest_line tree j.what) instance_is ∙ ap (longest_line tree) prints
 
-      room_here : room_of tree x ≡ styled_room tree (runs x.turns.place i) + sum_by (styled_room tree) (rest m ready p x lt read stop next)
+      room_here : room_of tree x ≡ turn_room tree (runs x.turns.place i) + sum_by (turn_room tree) (rest m ready p x lt read stop next)
       unfolding room_of
-      room_here = ap (sum_by (styled_room tree)) turns_is ∙ sum_by-cons (styled_room tree) (runs x.turns.place i) (rest m ready p x lt read stop next)
+      room_here = ap (sum_by (turn_room tree)) turns_is ∙ sum_by-cons (turn_room tree) (runs x.turns.place i) (rest m ready p x lt read stop next)
 
       -- there is room for the line
       pub print_fits : length m.output.bytes + (longest_items tree (map printed_of items) + 1) ≤ m.output.room
@@ -276,14 +276,14 @@ module _ (m : Machine) (ready : IsReady m) (p : ℕ) (x : Processor) (lt : p < l
           ∙ ap (λ t. t ++ 10 ∷ []) (texts_same tree rounds placed.numbered m.loops.items ready.loops (map printed_of items) x.registers.items good_there)
           ∙ ap (λ w. printed_text tree values w x.registers.items) (sym prints) ∙ ap (λ (j : Instance). line_of tree j x.registers.items) (sym instance_is)
 
-      pub print_steps : (y : Processor) (t : StyledTurn) (ls given : List ℤ) (loops : Vec ℤ Global) (output : Written) → PassesTurn x y t → y.counter ≡ x.counter → y.signal ≡ x.signal → y.own ≡ x.own →
+      pub print_steps : (y : Processor) (t : Turn) (ls given : List ℤ) (loops : Vec ℤ Global) (output : Written) → PassesTurn x y t → y.counter ≡ x.counter → y.signal ≡ x.signal → y.own ≡ x.own →
           ls ≡ with_rounds m.loops.items rounds → given ≡ x.registers.items → loops.items ≡ with_rounds m.loops.items rounds →
           output.bytes ≡ m.output.bytes ++ (items_text tree ls (map printed_of items) given ++ 10 ∷ []) → length output.bytes ≤ length m.output.bytes + (longest_items tree (map printed_of items) + 1) → m.output.room ≤ output.room →
           StepsTo m (record m { processors = with_item m.processors p y; loops = loops; output = output }) p Stepped
       print_steps y t ls given loops output passes counter signal same_own written same loops_are said grown capacity =
           let left = left_is y t passes ∙ ap (λ o. last_deed (option_map at_own o) false (assigned_value tree i) (line_of tree i) ∷ left_of y) no_store in
-          let turn = first_is (styled_left x.turns) (runs x.turns.place i) t (rest m ready p x lt read stop next) (styled_left y.turns) turns_is passes.turns in
-          let turns = passes.turns ∙ ap (λ u. u ∷ styled_left y.turns) (sym turn.0) in
+          let turn = first_is (turns_left x.turns) (runs x.turns.place i) t (rest m ready p x lt read stop next) (turns_left y.turns) turns_is passes.turns in
+          let turns = passes.turns ∙ ap (λ u. u ∷ turns_left y.turns) (sym turn.0) in
           let room = room_passed (style_in m) tree (plan_in m) (entries m.table) p x own y (runs x.turns.place i) turns in
           steps m ready p x y lt read loops m.memory output (printing (line_of tree i)) (passed_kept (style_in m) tree (plan_in m) (entries m.table) p x own ready.wide y t (printing (line_of tree i)) passes (ap length same_own ∙ own.own_cells) left)
           (ap (λ (l : List ℤ). length l) loops_are ∙ with_rounds-length m.loops.items rounds) refl (omega (arith, room, longest, grown)) capacity

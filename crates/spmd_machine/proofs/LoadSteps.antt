@@ -26,14 +26,15 @@ use Rattle.sync_plan.specs.Own.{own_loop, own_of}
 use Rattle.sync_plan.specs.declared.plan.Plan.{Plan}
 use Rattle.own_cells.specs.OwnCells.{AreFew}
 use Rattle.spmd_model.specs.Deeds.{loading}
-use Rattle.spmd_turns.specs.LoadPlaces.{IsAtLoad}
-use Rattle.spmd_turns.specs.Loads.{IsLoading}
-use Rattle.spmd_turns.specs.TurnsLeft.{IsInstance, turns_tree}
-use Rattle.styled_turns.specs.StyledTurns.{StyledTurn, runs}
-use Rattle.styled_turns.specs.StyledLeft.{AreStyled, styled_left, styled_plan, styled_processor, styled_rounds, styled_style, styled_tree}
-use Rattle.styled_turns.specs.declared.turns.StyledNext.TheVariants.{Work}
-use Rattle.spmd_machine.specs.Machines.{ComesNext, IsReady, IsSpot, LoadsIn, LoadsNext, StepsTo, StoresIn, StoresNext, plan_in, style_in, tree_in}
-use Rattle.spmd_machine.specs.Processors.{IsFoundNext, IsBegun, IsKept, all_of, is_styled_inside, left_of, memory_of, room_of}
+use Rattle.instance_runs.specs.LoadPlaces.{IsAtLoad}
+use Rattle.instance_runs.specs.Loads.{IsLoading}
+use Rattle.turns.specs.CountersLeft.{counters_tree}
+use Rattle.instance_runs.specs.Stops.{IsInstance}
+use Rattle.turns.specs.Turns.{Turn, runs}
+use Rattle.turns.specs.TurnsLeft.{AreSound, turns_left, turns_plan, turns_processor, turns_rounds, turns_style, turns_tree}
+use Rattle.turns.specs.declared.turns.Next.TheVariants.{Work}
+use Rattle.spmd_machine.specs.Machines.{ComesNext, IsMachine, IsSpot, LoadsIn, LoadsNext, StepsTo, StoresIn, StoresNext, plan_in, style_in, tree_in}
+use Rattle.spmd_machine.specs.Processors.{IsFoundNext, IsBegun, IsKept, all_of, is_turn_inside, left_of, memory_of, room_of}
 use Rattle.spmd_machine.specs.declared.answer.StepAnswer.TheVariants.{Stepped}
 use Rattle.spmd_machine.specs.declared.machine.Machine.{Machine}
 use Rattle.spmd_machine.specs.declared.processor.Processor.{Processor}
@@ -48,20 +49,20 @@ use Rattle.spmd_machine.proofs.Works.{at_own, begun_here, instance_is, left_load
 use Rattle.spmd_machine.proofs.Works as here
 
 -- what each processor has
-pub have_own : (m : Machine) → IsReady m → HaveOwn m.processors.items
+pub have_own : (m : Machine) → IsMachine m → HaveOwn m.processors.items
 have_own m ready p d lt = (ready.kept p d lt).own_cells
 
-module _ (m : Machine) (ready : IsReady m) (p : ℕ) (x : Processor) (lt : p < length m.processors.items) (read : x ≡ get_or m.processors.items p x) (stop : Stop) (next : ComesNext m p (Work stop)) where
+module _ (m : Machine) (ready : IsMachine m) (p : ℕ) (x : Processor) (lt : p < length m.processors.items) (read : x ≡ get_or m.processors.items p x) (stop : Stop) (next : ComesNext m p (Work stop)) where
   pub kept : IsKept (style_in m) (tree_in m) (plan_in m) (entries m.table) p x
   kept = kept_here m ready p x x lt read
 
-  pub inst : IsInstance (turns_tree x.turns.turns) (styled_rounds x.turns) stop
+  pub inst : IsInstance (counters_tree x.turns.counters) (turns_rounds x.turns) stop
   inst = (next_here m ready p x x lt read (Work stop) next).0
 
-  pub rest : List StyledTurn
+  pub rest : List Turn
   rest = (next_here m ready p x x lt read (Work stop) next).1.0
 
-  pub turns_are : styled_left x.turns ≡ runs x.turns.place inst.instance ∷ rest
+  pub turns_are : turns_left x.turns ≡ runs x.turns.place inst.instance ∷ rest
   unfolding inst rest
   turns_are = (next_here m ready p x x lt read (Work stop) next).1.1
 
@@ -74,17 +75,17 @@ module _ (m : Machine) (ready : IsReady m) (p : ℕ) (x : Processor) (lt : p < l
   -- the own scalars of the phase are few
   pub few_here : AreFew (tree_in m) (own_loop (tree_in m) (plan_in m) x.turns.place)
   few_here =
-      let few : AreFew (styled_tree x.turns) (own_loop (styled_tree x.turns) (styled_plan x.turns) x.turns.place) = kept.sound.own.few in
-      subst (λ (q : Plan). AreFew (tree_in m) (own_loop (tree_in m) q x.turns.place)) kept.plan_is (subst (λ (w : Tree). AreFew w (own_loop w (styled_plan x.turns) x.turns.place)) kept.program few)
+      let few : AreFew (turns_tree x.turns) (own_loop (turns_tree x.turns) (turns_plan x.turns) x.turns.place) = kept.sound.own.few in
+      subst (λ (q : Plan). AreFew (tree_in m) (own_loop (tree_in m) q x.turns.place)) kept.plan_is (subst (λ (w : Tree). AreFew w (own_loop w (turns_plan x.turns) x.turns.place)) kept.program few)
 
   -- where the processor says an own scalar stands
-  pub slot_is : (c : ℕ) (o : Option ℕ) → o ≡ (own_of (styled_tree x.turns) (styled_plan x.turns) x.turns.place).slot c → (own_of (tree_in m) (plan_in m) x.turns.place).slot c ≡ o
+  pub slot_is : (c : ℕ) (o : Option ℕ) → o ≡ (own_of (turns_tree x.turns) (turns_plan x.turns) x.turns.place).slot c → (own_of (tree_in m) (plan_in m) x.turns.place).slot c ≡ o
   slot_is c o found =
-      ap (λ (w : Tree). (own_of w (plan_in m) x.turns.place).slot c) (sym kept.program) ∙ ap (λ (q : Plan). (own_of (styled_tree x.turns) q x.turns.place).slot c) (sym kept.plan_is)
+      ap (λ (w : Tree). (own_of w (plan_in m) x.turns.place).slot c) (sym kept.program) ∙ ap (λ (q : Plan). (own_of (turns_tree x.turns) q x.turns.place).slot c) (sym kept.plan_is)
       ∙ sym found
 
   -- a spot that the processor finds is where its access of that cell goes
-  pub spot_next : (s : Spot) (c : ℕ) → s.cell ≡ c → s.own ≡ (own_of (styled_tree x.turns) (styled_plan x.turns) x.turns.place).slot c → IsSpot m p s
+  pub spot_next : (s : Spot) (c : ℕ) → s.cell ≡ c → s.own ≡ (own_of (turns_tree x.turns) (turns_plan x.turns) x.turns.place).slot c → IsSpot m p s
   spot_next s c same found d =
       subst (λ (z : Processor). (own_of (tree_in m) (plan_in m) z.turns.place).slot s.cell ≡ s.own) (read ∙ get_or_default m.processors.items p x d lt)
       (ap (λ n. (own_of (tree_in m) (plan_in m) x.turns.place).slot n) same ∙ slot_is c s.own found)
@@ -102,20 +103,20 @@ module _ (m : Machine) (ready : IsReady m) (p : ℕ) (x : Processor) (lt : p < l
   stores_here c stores = subst (λ (z : Processor). StoresIn (tree_in m) z stop c) (sym read) (stores x) inst
 
   -- a cell of the program is one of the cursor's
-  pub cell_here : (c : ℕ) → c < cell_count (tree_in m) → c < cell_count (styled_tree x.turns)
+  pub cell_here : (c : ℕ) → c < cell_count (tree_in m) → c < cell_count (turns_tree x.turns)
   cell_here c below = subst (λ (w : Tree). c < cell_count w) (sym kept.program) below
 
   -- its loads, where the cursor shows these loops
-  module _ (path : Path) (is : rounds_of path ≡ styled_rounds x.turns) where
-    pub at_path : IsInstance (turns_tree x.turns.turns) (styled_rounds x.turns) stop → IsInstance (turns_tree x.turns.turns) (rounds_of path) stop
+  module _ (path : Path) (is : rounds_of path ≡ turns_rounds x.turns) where
+    pub at_path : IsInstance (counters_tree x.turns.counters) (turns_rounds x.turns) stop → IsInstance (counters_tree x.turns.counters) (rounds_of path) stop
     at_path comes = record {
       instance = comes.instance;
-      is = ap (λ rs. instances_at (param_values (turns_tree x.turns.turns)) (visit_at (turns_tree x.turns.turns) rs stop)) is ∙ comes.is;
-      reached = subst (λ rs. IsTrue (is_reached (turns_tree x.turns.turns) rs stop)) (sym is) comes.reached;
-      text = subst (λ rs. StandFrom (Texts.works (turns_tree x.turns.turns)) stop.first (placed_in every (numbers_of rs) (statement_of stop.item.now))) (sym is) comes.text;
+      is = ap (λ rs. instances_at (param_values (counters_tree x.turns.counters)) (visit_at (counters_tree x.turns.counters) rs stop)) is ∙ comes.is;
+      reached = subst (λ rs. IsTrue (is_reached (counters_tree x.turns.counters) rs stop)) (sym is) comes.reached;
+      text = subst (λ rs. StandFrom (Texts.works (counters_tree x.turns.counters)) stop.first (placed_in every (numbers_of rs) (statement_of stop.item.now))) (sym is) comes.text;
     }
 
-    pub at_load : IsInstance (turns_tree x.turns.turns) (styled_rounds x.turns) stop → IsAtLoad (turns_tree x.turns.turns) m.table path stop x.done x.place
+    pub at_load : IsInstance (counters_tree x.turns.counters) (turns_rounds x.turns) stop → IsAtLoad (counters_tree x.turns.counters) m.table path stop x.done x.place
     unfolding at_path
     at_load comes =
         let both : comes.instance ∷ [] ≡ inst.instance ∷ [] = sym comes.is ∙ inst.is in
@@ -129,7 +130,7 @@ module _ (m : Machine) (ready : IsReady m) (p : ℕ) (x : Processor) (lt : p < l
           loading = λ cells at. begun_here m ready p x kept stop inst rest turns_are cells at;
         }
 
-    pub at_load-instance : (comes : IsInstance (turns_tree x.turns.turns) (styled_rounds x.turns) stop) → (at_load comes).comes.instance ≡ comes.instance
+    pub at_load-instance : (comes : IsInstance (counters_tree x.turns.counters) (turns_rounds x.turns) stop) → (at_load comes).comes.instance ≡ comes.instance
     unfolding at_load at_path
     at_load-instance comes = refl
 
@@ -137,7 +138,7 @@ module _ (m : Machine) (ready : IsReady m) (p : ℕ) (x : Processor) (lt : p < l
     pub loads_next : (cell : Option ℕ) → ((tree : Tree) (done : ℕ) (at : IsAtLoad tree m.table path stop done x.place) → cell ≡ slice_get (loads_of tree at.comes.instance) done) → LoadsNext m p stop cell
     loads_next cell found d =
         subst (λ (z : Processor). LoadsIn z stop cell) (read ∙ get_or_default m.processors.items p x d lt)
-        (λ comes. ap (λ i. slice_get (loads_of (turns_tree x.turns.turns) i) x.done) (sym (at_load-instance comes)) ∙ sym (found (turns_tree x.turns.turns) x.done (at_load comes)))
+        (λ comes. ap (λ i. slice_get (loads_of (counters_tree x.turns.counters) i) x.done) (sym (at_load-instance comes)) ∙ sym (found (counters_tree x.turns.counters) x.done (at_load comes)))
 
   -- what is loaded next
   pub loads_own : (cell : Option ℕ) → LoadsNext m p stop cell → LoadsIn x stop cell
@@ -178,7 +179,7 @@ module _ (m : Machine) (ready : IsReady m) (p : ℕ) (x : Processor) (lt : p < l
         let worker = worker_here m ready p x x lt read in
         let more : length y.registers.items ≡ suc (length x.registers.items) = omega (arith, ap length l.pushed, length-append x.registers.items (read_by x m.memory.items cell slot ∷ [])) in
         let left = left_load m ready p x kept stop inst rest turns_are cells at cell y there l.turns l.done in
-        let turns = ap styled_left l.turns in
+        let turns = ap turns_left l.turns in
         let begun : IsBegun (entries m.table) (runs x.turns.place inst.instance ∷ rest) y = λ other there'.
         let first : slice_get (entries m.table) (stop.first - 1) ≡ Some other = sym (ap (λ (i : Instance). slice_get (entries m.table) (i.statement - 1)) (instance_is m ready p x kept stop inst rest turns_are)) ∙ there' in
         let same : cells ≡ other = let both : Some cells ≡ Some other = sym at ∙ first in cc in
@@ -187,15 +188,15 @@ module _ (m : Machine) (ready : IsReady m) (p : ℕ) (x : Processor) (lt : p < l
           count = more ∙ ap suc (loaded_count m ready p x kept stop inst rest turns_are cells at) ∙ sym l.done;
         } in
         let now : IsKept (style_in m) (tree_in m) (plan_in m) (entries m.table) p y = record {
-          sound = subst AreStyled (sym l.turns) kept.sound;
-          program = ap styled_tree l.turns ∙ kept.program;
-          plan_is = ap styled_plan l.turns ∙ kept.plan_is;
-          processor = ap styled_processor l.turns ∙ kept.processor;
-          style_is = ap styled_style l.turns ∙ kept.style_is;
+          sound = subst AreSound (sym l.turns) kept.sound;
+          program = ap turns_tree l.turns ∙ kept.program;
+          plan_is = ap turns_plan l.turns ∙ kept.plan_is;
+          processor = ap turns_processor l.turns ∙ kept.processor;
+          style_is = ap turns_style l.turns ∙ kept.style_is;
           behind = suffix_rest (all_of (style_in m) (tree_in m) (plan_in m) p) (left_of x) (left_of y) (loading own_cell) kept.behind left;
           instance = l.instance;
           begun = subst (λ ts. IsBegun (entries m.table) ts y) (sym (turns ∙ turns_are)) begun;
-          inside = ap (list_all (is_styled_inside (tree_in m))) turns ∙ kept.inside;
+          inside = ap (list_all (is_turn_inside (tree_in m))) turns ∙ kept.inside;
           own_cells = ap length l.own_cells ∙ kept.own_cells;
           room = λ n w there'. omega (arith, kept.room n w there', l.capacity);
           room_to_close = omega (arith, kept.room_to_close, l.capacity);

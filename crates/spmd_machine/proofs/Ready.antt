@@ -14,15 +14,15 @@ use Rattle.spmd_model.specs.Machines.{machine_by}
 use Rattle.spmd_model.specs.declared.style.Style.{Style}
 use Rattle.spmd_model.specs.States.{State, first_state, stepped}
 use Rattle.spmd_model.specs.Timelines as Timelines
-use Rattle.spmd_machine.specs.Machines.{ComesNext, HasDone, IsReached, IsReady, IsSameMachine, StepsTo, model_of, plan_in, shared_in, shown, step_answer, style_in, tree_in}
+use Rattle.spmd_machine.specs.Machines.{ComesNext, HasDone, IsReached, IsMachine, IsSameMachine, StepsTo, model_of, plan_in, shared_in, shown, step_answer, style_in, tree_in}
 use Rattle.spmd_machine.specs.Processors.{IsKept, left_of, position_of, room_of}
 use Rattle.spmd_machine.specs.declared.answer.StepAnswer.{StepAnswer}
 use Rattle.spmd_machine.specs.declared.answer.StepAnswer.TheVariants.{Stepped, Ended}
 use Rattle.spmd_machine.specs.declared.machine.Machine.{Machine}
 use Rattle.spmd_machine.specs.declared.processor.Processor.{Processor}
-use Rattle.styled_turns.specs.StyledLeft.{IsStyledNext}
-use Rattle.styled_turns.specs.declared.turns.StyledNext.{StyledNext}
-use Rattle.styled_turns.specs.declared.turns.StyledNext.TheVariants.{End}
+use Rattle.turns.specs.TurnsLeft.{IsNext}
+use Rattle.turns.specs.declared.turns.Next.{Next}
+use Rattle.turns.specs.declared.turns.Next.TheVariants.{End}
 use Rattle.spmd_machine.proofs.Kept.{end_left, picked, written_all}
 use Rattle.spmd_machine.proofs.Steps.{Does, ShowsSame, done_state, ended_answer, ended_state, still_state, stepped_answer}
 
@@ -34,7 +34,7 @@ reached_more m s p lt r = record {
   run = ap (λ t. stepped m t p) r.run ∙ sym (fold_push (stepped m) (first_state m) r.schedule p);
 }
 
-module _ (m : Machine) (ready : IsReady m) (p : ℕ) (x y : Processor) (lt : p < length m.processors.items) (read : x ≡ get_or m.processors.items p x) where
+module _ (m : Machine) (ready : IsMachine m) (p : ℕ) (x y : Processor) (lt : p < length m.processors.items) (read : x ≡ get_or m.processors.items p x) where
   -- the machine with another processor, memory, output and values of loops
   abbrev pub with_parts : Vec ℤ Global → Vec ℤ Global → Written → Machine
   with_parts loops memory output = record m { processors = with_item m.processors p y; loops = loops; memory = memory; output = output }
@@ -42,15 +42,15 @@ module _ (m : Machine) (ready : IsReady m) (p : ℕ) (x y : Processor) (lt : p <
   pub kept_here : IsKept (style_in m) (tree_in m) (plan_in m) (entries m.table) p x
   kept_here = subst (IsKept (style_in m) (tree_in m) (plan_in m) (entries m.table) p) (sym read) (ready.kept p x lt)
 
-  pub next_here : (found : StyledNext) → ComesNext m p found → IsStyledNext x.turns found
-  next_here found next = subst (λ (z : Processor). IsStyledNext z.turns found) (sym read) (next x)
+  pub next_here : (found : Next) → ComesNext m p found → IsNext x.turns found
+  next_here found next = subst (λ (z : Processor). IsNext z.turns found) (sym read) (next x)
 
   -- it is one of the plan's
   pub worker_here : p < (plan_in m).workers
   worker_here = omega (arith, lt, ready.count)
 
   ready_with : (loops memory : Vec ℤ Global) (output : Written) → IsKept (style_in m) (tree_in m) (plan_in m) (entries m.table) p y → length loops.items ≡ length m.loops.items → length memory.items ≡ length m.memory.items →
-      length output.bytes + room_of (tree_in m) y ≤ length m.output.bytes + room_of (tree_in m) x → m.output.room ≤ output.room → IsReached (model_of m) (shown (with_parts loops memory output)) → IsReady (with_parts loops memory output)
+      length output.bytes + room_of (tree_in m) y ≤ length m.output.bytes + room_of (tree_in m) x → m.output.room ≤ output.room → IsReached (model_of m) (shown (with_parts loops memory output)) → IsMachine (with_parts loops memory output)
   ready_with loops memory output kept written cells room capacity reached =
       let sums = sum_by-set (room_of (tree_in m)) m.processors.items p y x lt in
       let mine = ap (room_of (tree_in m)) read in
@@ -92,7 +92,7 @@ module _ (m : Machine) (ready : IsReady m) (p : ℕ) (x y : Processor) (lt : p <
   still_shown same = still_state (style_in m) (tree_in m) (plan_in m) ready.formed ready.fits (entries m.table) m.processors.items m.memory.items m.output.bytes p worker_here x lt read kept_here y same
 
   pub still_ready : IsKept (style_in m) (tree_in m) (plan_in m) (entries m.table) p y → room_of (tree_in m) y ≡ room_of (tree_in m) x →
-      ShowsSame (style_in m) (tree_in m) (plan_in m) ready.formed ready.fits (entries m.table) m.processors.items m.memory.items m.output.bytes p worker_here x lt read kept_here y → IsReady (with_parts m.loops m.memory m.output)
+      ShowsSame (style_in m) (tree_in m) (plan_in m) ready.formed ready.fits (entries m.table) m.processors.items m.memory.items m.output.bytes p worker_here x lt read kept_here y → IsMachine (with_parts m.loops m.memory m.output)
   still_ready kept room same = ready_with m.loops m.memory m.output kept refl refl (omega (arith, room)) (omega arith) (subst (IsReached (model_of m)) (sym (still_shown same)) ready.reached)
 
 -- a code has filled its registers
@@ -123,7 +123,7 @@ code_filled old new p said registers same step =
     }
 
 -- a processor at its end
-pub at_end : (m : Machine) → IsReady m → (p : ℕ) → p < length m.processors.items → ComesNext m p End → (shown m ≡ stepped (model_of m) (shown m) p) × (Ended ≡ step_answer (model_of m) (shown m) p)
+pub at_end : (m : Machine) → IsMachine m → (p : ℕ) → p < length m.processors.items → ComesNext m p End → (shown m ≡ stepped (model_of m) (shown m) p) × (Ended ≡ step_answer (model_of m) (shown m) p)
 unfolding shown
 at_end m ready p lt next =
     let (x, read) = picked m.processors.items p lt in

@@ -8,7 +8,7 @@ use Rattle.spmd_model.specs.Quiet.{is_quiet, past_quiet, quiet_first, quiet_next
 use Rattle.spmd_model.specs.States.{State, acted, is_possible, moved, next_act, stepped, stepped_by}
 use Rattle.spmd_model.specs.Timelines.{Act, post, await, load, store, add, print, Machine, acts_of}
 use Rattle.spmd_model.proofs.Quiet.{can_do}
-use Rattle.spmd_turns.proofs.TurnLists.{drop_at}
+use Rattle.turns.proofs.CounterLists.{drop_at}
 use Rattle.spmd_model.specs.Fair.{can_go, can_step}
 
 quiet_stays : (m : Machine) (shared : ℕ) (s : State) (p : ℕ) (a : Act) → is_quiet shared a ≡ true → (acted m s p a).positions ≡ s.positions

@@ -13,12 +13,12 @@ use Rattle.spmd_model.specs.declared.style.Style.{Style}
 use Rattle.spmd_model.specs.States.{State, acted, is_possible, moved, next_act, registers_of, stepped, stepped_by, words_of}
 use Rattle.spmd_model.specs.Timelines.{Act, Word, post, await, load, store, add, print, counter, signal, acts_of}
 use Rattle.spmd_model.proofs.Deeds.{acted_is, possible_is}
-use Rattle.spmd_model.proofs.MachineDeeds.{styled_deeds}
+use Rattle.spmd_model.proofs.MachineDeeds.{acts_do}
 use Rattle.spmd_model.proofs.StateAt.{same_state}
 use Rattle.spmd_machine.specs.Machines.{answer_at, step_answer}
 use Rattle.spmd_machine.specs.Processors.{IsKept, all_of, left_of, memory_of, position_of, state_of}
 use Rattle.spmd_machine.proofs.OwnMemory.{same_memory}
-use Rattle.styled_turns.specs.StyledLeft.{styled_processor}
+use Rattle.turns.specs.TurnsLeft.{turns_processor}
 use Rattle.spmd_machine.specs.declared.answer.StepAnswer.TheVariants.{Stepped, Blocked, Ended}
 use Rattle.spmd_machine.specs.declared.processor.Processor.{Processor}
 use Rattle.spmd_machine.proofs.Suffixes.{MappedFrom, head, head-cons, head-nil, mapped_from, mapped_none, place_more, slice_get-left}
@@ -38,7 +38,7 @@ module _ (style : Style) (tree : Tree) (plan : Plan) (formed : IsWellFormed tree
 
   deeds_are : map (deed_of (machine_by style tree plan)) (acts_of (machine_by style tree plan) p) ≡ all_of style tree plan p
   unfolding all_of
-  deeds_are = styled_deeds style tree plan p formed fits worker
+  deeds_are = acts_do style tree plan p formed fits worker
 
   deed_there : slice_get (map (deed_of (machine_by style tree plan)) (acts_of (machine_by style tree plan) p)) (slice_index here.positions p) ≡ head (left_of x)
   deed_there = ap (slice_get (map (deed_of (machine_by style tree plan)) (acts_of (machine_by style tree plan) p))) position_read ∙ ap (λ l. slice_get l (length (all_of style tree plan p) - length (left_of x))) deeds_are ∙ slice_get-left (all_of style tree plan p) (left_of x) kept.behind
@@ -113,7 +113,7 @@ module _ (style : Style) (tree : Tree) (plan : Plan) (formed : IsWellFormed tree
   -- a processor behind a deed, with memory and output behind it
   pub record Does (d : Deed) (y : Processor) (after : List ℤ) (said : List ℕ) : Type 0 where
     pub left : left_of x ≡ d ∷ left_of y
-    pub processor : styled_processor y.turns ≡ p
+    pub processor : turns_processor y.turns ≡ p
     pub can : can_do here d ≡ true
     pub registers : set here.registers p y.registers.items ≡ (did here p d).registers
     pub counters : set here.counters p y.counter ≡ (did here p d).counters
@@ -151,7 +151,7 @@ module _ (style : Style) (tree : Tree) (plan : Plan) (formed : IsWellFormed tree
   -- a processor that shows the same
   pub record ShowsSame (y : Processor) : Type 0 where
     pub left : left_of y ≡ left_of x
-    pub processor : styled_processor y.turns ≡ p
+    pub processor : turns_processor y.turns ≡ p
     pub registers : y.registers.items ≡ x.registers.items
     pub counter : y.counter ≡ x.counter
     pub signal : y.signal ≡ x.signal

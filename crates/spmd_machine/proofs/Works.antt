@@ -36,15 +36,16 @@ use Rattle.seq_meaning.proofs.RunSteps.{placed-found, placed-high, placed-low}
 use Rattle.sync_plan.specs.Own.{Own, own_cell, own_of}
 use Rattle.sync_plan.specs.declared.plan.Plan.{Plan}
 use Rattle.spmd_model.specs.Deeds.{Deed, last_deed, loading}
-use Rattle.spmd_turns.specs.Loads.{IsLoading, cell_of_load, widths}
-use Rattle.spmd_turns.specs.TurnsLeft.{IsInstance, turns_tree}
-use Rattle.spmd_turns.proofs.LoadPlaces.{cells-widths, drop_there, loading_below, loading_within}
-use Rattle.spmd_turns.proofs.NextLoads.{loading_found, loading_over}
-use Rattle.styled_turns.specs.StyledTurns.{StyledTurn, runs, styled_deeds}
-use Rattle.styled_turns.specs.declared.turns.StyledTurns.{StyledTurns}
-use Rattle.styled_turns.specs.StyledLeft.{styled_left, styled_path, styled_plan, styled_processor, styled_rounds, styled_tree}
-use Rattle.spmd_machine.specs.Machines.{IsReady, plan_in, style_in, tree_in}
-use Rattle.spmd_machine.specs.Processors.{IsBegun, IsKept, IsRunning, is_styled_inside, left_of}
+use Rattle.instance_runs.specs.Loads.{IsLoading, cell_of_load, widths}
+use Rattle.turns.specs.CountersLeft.{counters_tree}
+use Rattle.instance_runs.specs.Stops.{IsInstance}
+use Rattle.instance_runs.proofs.LoadPlaces.{cells-widths, drop_there, loading_below, loading_within}
+use Rattle.instance_runs.proofs.NextLoads.{loading_found, loading_over}
+use Rattle.turns.specs.Turns.{Turn, runs, turn_deeds}
+use Rattle.turns.specs.declared.turns.Turns.{Turns}
+use Rattle.turns.specs.TurnsLeft.{turns_left, turns_path, turns_plan, turns_processor, turns_rounds, turns_tree}
+use Rattle.spmd_machine.specs.Machines.{IsMachine, plan_in, style_in, tree_in}
+use Rattle.spmd_machine.specs.Processors.{IsBegun, IsKept, IsRunning, is_turn_inside, left_of}
 use Rattle.spmd_machine.specs.declared.machine.Machine.{Machine}
 use Rattle.spmd_machine.specs.declared.processor.Processor.{Processor}
 use Rattle.spmd_machine.proofs.Kept.{first_is}
@@ -61,12 +62,12 @@ last_first f (c ∷ cells) d behind n count =
     let more : n ≡ suc (length cells) = omega (arith, count) in
     ap (λ k. drop k (f c ∷ (map f cells ++ (d ∷ behind)))) more ∙ last_first f cells d behind (length cells) refl
 
-module _ (m : Machine) (ready : IsReady m) (p : ℕ) (x : Processor) (kept : IsKept (style_in m) (tree_in m) (plan_in m) (entries m.table) p x) (stop : Stop) (inst : IsInstance (turns_tree x.turns.turns) (styled_rounds x.turns) stop) (rest : List StyledTurn) (next : styled_left x.turns ≡ runs x.turns.place inst.instance ∷ rest) where
+module _ (m : Machine) (ready : IsMachine m) (p : ℕ) (x : Processor) (kept : IsKept (style_in m) (tree_in m) (plan_in m) (entries m.table) p x) (stop : Stop) (inst : IsInstance (counters_tree x.turns.counters) (turns_rounds x.turns) stop) (rest : List Turn) (next : turns_left x.turns ≡ runs x.turns.place inst.instance ∷ rest) where
   abbrev tree : Tree
   tree = tree_in m
 
   abbrev path : Path
-  path = styled_path x.turns
+  path = turns_path x.turns
 
   abbrev pub loops : List ℤ
   loops = loops_in tree (rounds_of path)
@@ -81,7 +82,7 @@ module _ (m : Machine) (ready : IsReady m) (p : ℕ) (x : Processor) (kept : IsK
   abbrev pub at_own : ℕ → ℕ
   at_own c = own_cell own p c
 
-  pub program : turns_tree x.turns.turns ≡ tree
+  pub program : counters_tree x.turns.counters ≡ tree
   program = kept.sound.same_tree ∙ kept.program
 
   executed : instances_at (param_values tree) (visit_at tree (rounds_of path) stop) ≡ inst.instance ∷ []
@@ -94,7 +95,7 @@ module _ (m : Machine) (ready : IsReady m) (p : ℕ) (x : Processor) (kept : IsK
   text = subst (λ (w : Tree). StandFrom (Texts.works w) stop.first (placed_in every (numbers_of (rounds_of path)) (statement_of stop.item.now))) program inst.text
 
   pub inside : is_instance_inside tree inst.instance ≡ true
-  inside = (and_parts (is_instance_inside tree inst.instance) (list_all (is_styled_inside tree) rest) (sym (ap (list_all (is_styled_inside tree)) next) ∙ kept.inside)).0
+  inside = (and_parts (is_instance_inside tree inst.instance) (list_all (is_turn_inside tree) rest) (sym (ap (list_all (is_turn_inside tree)) next) ∙ kept.inside)).0
 
   pub placed : IsPlacedWork tree (rounds_of path) stop.first (statement_of stop.item.now)
   placed = placed_work tree (rounds_of path) stop inst.instance executed reached text inside
@@ -130,23 +131,23 @@ module _ (m : Machine) (ready : IsReady m) (p : ℕ) (x : Processor) (kept : IsK
 
     -- what is left
     behind_it : List Deed
-    behind_it = flat_map (styled_deeds tree (plan_in m) p) rest
+    behind_it = flat_map (turn_deeds tree (plan_in m) p) rest
 
     last : Deed
     last = last_deed (option_map at_own (store_of tree inst.instance)) false (assigned_value tree inst.instance) (line_of tree inst.instance)
 
-    deeds_are : (y : Processor) (n : ℕ) (ts : List StyledTurn) → styled_tree y.turns ≡ tree → styled_plan y.turns ≡ plan_in m → styled_processor y.turns ≡ p →
-        drop n (flat_map (styled_deeds (styled_tree y.turns) (styled_plan y.turns) (styled_processor y.turns)) ts) ≡ drop n (flat_map (styled_deeds tree (plan_in m) p) ts)
+    deeds_are : (y : Processor) (n : ℕ) (ts : List Turn) → turns_tree y.turns ≡ tree → turns_plan y.turns ≡ plan_in m → turns_processor y.turns ≡ p →
+        drop n (flat_map (turn_deeds (turns_tree y.turns) (turns_plan y.turns) (turns_processor y.turns)) ts) ≡ drop n (flat_map (turn_deeds tree (plan_in m) p) ts)
     deeds_are y n ts t q k =
-        ap (λ (w : Tree). drop n (flat_map (styled_deeds w (styled_plan y.turns) (styled_processor y.turns)) ts)) t ∙ ap (λ (r : Plan). drop n (flat_map (styled_deeds tree r (styled_processor y.turns)) ts)) q
-        ∙ ap (λ j. drop n (flat_map (styled_deeds tree (plan_in m) j) ts)) k
+        ap (λ (w : Tree). drop n (flat_map (turn_deeds w (turns_plan y.turns) (turns_processor y.turns)) ts)) t ∙ ap (λ (r : Plan). drop n (flat_map (turn_deeds tree r (turns_processor y.turns)) ts)) q
+        ∙ ap (λ j. drop n (flat_map (turn_deeds tree (plan_in m) j) ts)) k
 
     left_is : left_of x ≡ drop x.done (map loading (map at_own (loads_of tree inst.instance)) ++ (last ∷ behind_it))
     unfolding left_of behind_it last
     left_is =
-        deeds_are x x.done (styled_left x.turns) kept.program kept.plan_is kept.processor
-        ∙ ap (λ ts. drop x.done (flat_map (styled_deeds tree (plan_in m) p) ts)) next
-        ∙ ap (drop x.done) (append_assoc (map loading (map at_own (loads_of tree inst.instance))) (last_deed (option_map at_own (store_of tree inst.instance)) false (assigned_value tree inst.instance) (line_of tree inst.instance) ∷ []) (flat_map (styled_deeds tree (plan_in m) p) rest))
+        deeds_are x x.done (turns_left x.turns) kept.program kept.plan_is kept.processor
+        ∙ ap (λ ts. drop x.done (flat_map (turn_deeds tree (plan_in m) p) ts)) next
+        ∙ ap (drop x.done) (append_assoc (map loading (map at_own (loads_of tree inst.instance))) (last_deed (option_map at_own (store_of tree inst.instance)) false (assigned_value tree inst.instance) (line_of tree inst.instance) ∷ []) (flat_map (turn_deeds tree (plan_in m) p) rest))
 
     -- a load
     load_found : (cell : ℕ) → slice_get (loads_of tree inst.instance) x.done ≡ Some cell → (l : LoadCells) × (slice_get cells.loads.items x.place.load ≡ Some l) × (cell ≡ cell_of_load values l x.place.element)
@@ -169,14 +170,14 @@ module _ (m : Machine) (ready : IsReady m) (p : ℕ) (x : Processor) (kept : IsK
     left_load cell y there turns more =
         let cs = map at_own (loads_of tree inst.instance) in
         let d = last_deed (option_map at_own (store_of tree inst.instance)) false (assigned_value tree inst.instance) (line_of tree inst.instance) in
-        let deeds = flat_map (styled_deeds tree (plan_in m) p) in
+        let deeds = flat_map (turn_deeds tree (plan_in m) p) in
         left_is ∙ load_first loading cs (d ∷ deeds rest) x.done (at_own cell) (own_load cell there)
         ∙ ap (λ ds. loading (at_own cell) ∷ ds)
         (ap (drop (suc x.done)) (sym (append_assoc (map loading cs) (d ∷ []) (deeds rest)))
         ∙ ap (λ n. drop n (deeds (runs x.turns.place inst.instance ∷ rest))) (sym more)
         ∙ ap (λ ts. drop y.done (deeds ts)) (sym next)
-        ∙ sym (deeds_are x y.done (styled_left x.turns) kept.program kept.plan_is kept.processor)
-        ∙ ap (λ (c : StyledTurns). drop y.done (flat_map (styled_deeds (styled_tree c) (styled_plan c) (styled_processor c)) (styled_left c))) (sym turns))
+        ∙ sym (deeds_are x y.done (turns_left x.turns) kept.program kept.plan_is kept.processor)
+        ∙ ap (λ (c : Turns). drop y.done (flat_map (turn_deeds (turns_tree c) (turns_plan c) (turns_processor c)) (turns_left c))) (sym turns))
 
     pub left_first : (cell : ℕ) → slice_get (loads_of tree inst.instance) x.done ≡ Some cell → (later : List Deed) × (left_of x ≡ loading (at_own cell) ∷ later)
     left_first cell there = (
@@ -195,14 +196,14 @@ module _ (m : Machine) (ready : IsReady m) (p : ℕ) (x : Processor) (kept : IsK
       unfolding last
       left_end = (behind_it, left_is ∙ last_first loading (map at_own (loads_of tree inst.instance)) last behind_it x.done (length-map (loads_of tree inst.instance) at_own ∙ loads_done))
 
-      pub left_last : (y : Processor) (t : StyledTurn) → styled_tree y.turns ≡ styled_tree x.turns → styled_plan y.turns ≡ styled_plan x.turns → styled_processor y.turns ≡ styled_processor x.turns → styled_left x.turns ≡ t ∷ styled_left y.turns → y.done ≡ 0 →
+      pub left_last : (y : Processor) (t : Turn) → turns_tree y.turns ≡ turns_tree x.turns → turns_plan y.turns ≡ turns_plan x.turns → turns_processor y.turns ≡ turns_processor x.turns → turns_left x.turns ≡ t ∷ turns_left y.turns → y.done ≡ 0 →
           left_of x ≡ last_deed (option_map at_own (store_of tree inst.instance)) false (assigned_value tree inst.instance) (line_of tree inst.instance) ∷ left_of y
       unfolding left_of behind_it last
       left_last y t trees plans processors turns none =
           let d = last_deed (option_map at_own (store_of tree inst.instance)) false (assigned_value tree inst.instance) (line_of tree inst.instance) in
-          let rest_is = (first_is (styled_left x.turns) (runs x.turns.place inst.instance) t rest (styled_left y.turns) next turns).1 in
+          let rest_is = (first_is (turns_left x.turns) (runs x.turns.place inst.instance) t rest (turns_left y.turns) next turns).1 in
           let count : length (map at_own (loads_of tree inst.instance)) ≡ x.done = length-map (loads_of tree inst.instance) at_own ∙ loads_done in
-          left_is ∙ last_first loading (map at_own (loads_of tree inst.instance)) d (flat_map (styled_deeds tree (plan_in m) p) rest) x.done count
-          ∙ ap (λ ts. d ∷ flat_map (styled_deeds tree (plan_in m) p) ts) rest_is
-          ∙ ap (λ ds. d ∷ ds) (sym (ap (λ n. drop n (flat_map (styled_deeds (styled_tree y.turns) (styled_plan y.turns) (styled_processor y.turns)) (styled_left y.turns))) none
-          ∙ deeds_are y 0 (styled_left y.turns) (trees ∙ kept.program) (plans ∙ kept.plan_is) (processors ∙ kept.processor)))
+          left_is ∙ last_first loading (map at_own (loads_of tree inst.instance)) d (flat_map (turn_deeds tree (plan_in m) p) rest) x.done count
+          ∙ ap (λ ts. d ∷ flat_map (turn_deeds tree (plan_in m) p) ts) rest_is
+          ∙ ap (λ ds. d ∷ ds) (sym (ap (λ n. drop n (flat_map (turn_deeds (turns_tree y.turns) (turns_plan y.turns) (turns_processor y.turns)) (turns_left y.turns))) none
+          ∙ deeds_are y 0 (turns_left y.turns) (trees ∙ kept.program) (plans ∙ kept.plan_is) (processors ∙ kept.processor)))

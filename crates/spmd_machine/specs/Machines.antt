@@ -21,10 +21,11 @@ use Rattle.spmd_model.specs.Timelines as Timelines
 use Rattle.spmd_model.specs.Timelines.{Act, post, await, load, store, add, print}
 use Rattle.spmd_model.specs.declared.style.Style.{Style}
 use Rattle.spmd_machine.specs.Processors.{IsKept, room_of, state_of}
-use Rattle.spmd_turns.specs.Loads.{width}
-use Rattle.spmd_turns.specs.TurnsLeft.{IsInstance, turns_tree}
-use Rattle.styled_turns.specs.StyledLeft.{IsStyledNext, styled_rounds}
-use Rattle.styled_turns.specs.declared.turns.StyledNext.{StyledNext}
+use Rattle.instance_runs.specs.Loads.{width}
+use Rattle.turns.specs.CountersLeft.{counters_tree}
+use Rattle.instance_runs.specs.Stops.{IsInstance}
+use Rattle.turns.specs.TurnsLeft.{IsNext, turns_rounds}
+use Rattle.turns.specs.declared.turns.Next.{Next}
 use Rattle.spmd_machine.specs.declared.answer.StepAnswer.{StepAnswer}
 use Rattle.spmd_machine.specs.declared.answer.StepAnswer.TheVariants.{Stepped, Blocked, Ended}
 use Rattle.spmd_machine.specs.declared.machine.Machine.{Machine}
@@ -71,7 +72,7 @@ pub record IsReached (m : Timelines.Machine) (s : State) : Type 0 where
   pub run : s ≡ run_of m schedule
 
 -- a machine is in a state that some schedule leads to, and its parts are those of its program and its plan, which fits it
-pub record IsReady (m : Machine) : Type 0 where
+pub record IsMachine (m : Machine) : Type 0 where
   pub formed : IsWellFormed (tree_in m)
   pub ranges : IsInRange (tree_in m)
   pub fits : IsFit (tree_in m) (plan_in m)
@@ -88,8 +89,8 @@ pub record IsReady (m : Machine) : Type 0 where
   pub reached : IsReached (model_of m) (shown m)
 
 -- this comes next of processor p
-abbrev pub ComesNext : Machine → ℕ → StyledNext → Type 0
-ComesNext m p next = (d : Processor) → IsStyledNext (slice_index_or m.processors.items p d).turns next
+abbrev pub ComesNext : Machine → ℕ → Next → Type 0
+ComesNext m p next = (d : Processor) → IsNext (slice_index_or m.processors.items p d).turns next
 
 -- so many acts are done of what comes next of processor p
 abbrev pub HasDone : Machine → ℕ → ℕ → Type 0
@@ -97,14 +98,14 @@ HasDone m p n = (d : Processor) → (slice_index_or m.processors.items p d).done
 
 -- the instance at a stop that comes next of a processor loads this of the cells that all share next, or nothing more
 abbrev pub LoadsIn : Processor → Stop → Option ℕ → Type 0
-LoadsIn x stop cell = (comes : IsInstance (turns_tree x.turns.turns) (styled_rounds x.turns) stop) → slice_get (loads_of (turns_tree x.turns.turns) comes.instance) x.done ≡ cell
+LoadsIn x stop cell = (comes : IsInstance (counters_tree x.turns.counters) (turns_rounds x.turns) stop) → slice_get (loads_of (counters_tree x.turns.counters) comes.instance) x.done ≡ cell
 
 abbrev pub LoadsNext : Machine → ℕ → Stop → Option ℕ → Type 0
 LoadsNext m p stop cell = (d : Processor) → LoadsIn (slice_index_or m.processors.items p d) stop cell
 
 -- the instance at a stop that comes next of processor p stores to this of the cells that all share
 abbrev pub StoresIn : Tree → Processor → Stop → ℕ → Type 0
-StoresIn tree x stop cell = (comes : IsInstance (turns_tree x.turns.turns) (styled_rounds x.turns) stop) → store_of tree comes.instance ≡ Some cell
+StoresIn tree x stop cell = (comes : IsInstance (counters_tree x.turns.counters) (turns_rounds x.turns) stop) → store_of tree comes.instance ≡ Some cell
 
 abbrev pub StoresNext : Machine → ℕ → Stop → ℕ → Type 0
 StoresNext m p stop cell = (d : Processor) → StoresIn (tree_in m) (slice_index_or m.processors.items p d) stop cell
@@ -122,7 +123,7 @@ pub record IsSameMachine (old new : Machine) : Type 0 where
 
 -- a machine behind an act of processor p, with what it answers
 pub record StepsTo (old new : Machine) (p : ℕ) (said : StepAnswer) : Type 0 where
-  pub ready : IsReady new
+  pub ready : IsMachine new
   pub same : IsSameMachine old new
   pub state : shown new ≡ stepped (model_of old) (shown old) p
   pub answer : said ≡ step_answer (model_of old) (shown old) p

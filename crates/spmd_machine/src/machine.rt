@@ -11,15 +11,15 @@ ghost use Rattle.spmd_machine.specs.Processors.{AreFresh};
 use crate::answer::StepAnswer;
 use crate::processor::{Processor, Spot};
 use flat_code::{CodeTable, value_of_code};
+use instance_runs::{LoadPlace, longest_output, most_loads, open_printing};
 use nest_tree::{Item, PrintItem, Program};
 use nest_walk::{CellTable, Stop};
 use own_cells::{OWN_PLACES, is_sum_place};
 use seq_meaning::{Given, Output};
 use spmd_model::Style;
-use spmd_turns::{LoadPlace, longest_output, most_loads, open_printing};
 use std::alloc::{AllocError, Global};
-use styled_turns::{StyledNext, StyledTurns};
 use sync_plan::Plan;
+use turns::{Next, Turns};
 
 // The most statements that a program has, and so the most loops.
 const MOST_STATEMENTS: usize = 400;
@@ -62,7 +62,7 @@ impl<'a> Machine<'a> {
     ghost use Rattle.spmd_model.specs.Machines.{timeline_by};
     ghost use Rattle.spmd_model.specs.Timelines.{Job, job, load};
     ghost use Rattle.spmd_machine.specs.Promises.{FindsSequential, one_round, rounds};
-    ghost use Rattle.spmd_machine.specs.Machines.{ComesNext, GoesQuietly, HasDone, IsReady, IsSameMachine, IsSettled, IsSpot, LoadsNext, StepsTo, StoresNext, model_of, plan_in, shared_in, shown, step_answer, style_in, tree_in};
+    ghost use Rattle.spmd_machine.specs.Machines.{ComesNext, GoesQuietly, HasDone, IsMachine, IsSameMachine, IsSettled, IsSpot, LoadsNext, StepsTo, StoresNext, model_of, plan_in, shared_in, shown, step_answer, style_in, tree_in};
 
     /// The first state: nothing is done but what each processor begins with on its own cells, and
     /// all is 0 or empty. What a run can need is reserved.
@@ -76,7 +76,7 @@ impl<'a> Machine<'a> {
         requires limits { IsWithinLimits (tree_of program.now) }
         requires ranges { IsInRange (tree_of program.now) }
         requires fits { IsFit (tree_of program.now) plan.now }
-        ensures ready { IfOk result (λ m. IsReady m) }
+        ensures ready { IfOk result (λ m. IsMachine m) }
         ensures first { IfOk result (λ m. shown m ≡ first_turn (model_of m) (shared_in m)) }
         ensures settled { IfOk result (λ m. (p : ℕ) → p < plan.now.workers → IsSettled m p) }
         ensures program { IfOk result (λ m. tree_in m ≡ tree_of program.now) }
@@ -113,8 +113,8 @@ impl<'a> Machine<'a> {
 
     // Each processor does what it begins with on its own cells.
     fn settle_all(&mut self)
-        requires ready { IsReady self.old }
-        ensures ready { IsReady self.new }
+        requires ready { IsMachine self.old }
+        ensures ready { IsMachine self.new }
         ensures state { shown self.new ≡ fold (past_quiet (model_of self.old) (shared_in self.old))
             (shown self.old) (one_round (model_of self.old)) }
         ensures same { IsSameMachine self.old self.new }
@@ -129,9 +129,9 @@ impl<'a> Machine<'a> {
     /// what the sequential run along the timeline has there; and one of an instance, but of a sum
     /// scalar of its phase, what the sequential program has there in front of that instance.
     pub fn step(&mut self, p: u32) -> StepAnswer
-        requires ready { IsReady self.old }
+        requires ready { IsMachine self.old }
         requires worker { p < (plan_in self.old).workers }
-        ensures ready { IsReady self.new }
+        ensures ready { IsMachine self.new }
         ensures step { shown self.new ≡ turned (model_of self.old) (shared_in self.old)
             (shown self.old) p }
         ensures answer { result ≡ step_answer (model_of self.old) (shown self.old) p }
@@ -156,9 +156,9 @@ impl<'a> Machine<'a> {
     // has.
     #[inline(always)]
     fn settle(&mut self, p: usize)
-        requires ready { IsReady self.old }
+        requires ready { IsMachine self.old }
         requires worker { p < length self.old.processors.items }
-        ensures ready { IsReady self.new }
+        ensures ready { IsMachine self.new }
         ensures state { shown self.new ≡ past_quiet (model_of self.old) (shared_in self.old)
             (shown self.old) p }
         ensures same { IsSameMachine self.old self.new }
@@ -170,9 +170,9 @@ impl<'a> Machine<'a> {
 
     // The same, whatever the plan.
     fn settle_own(&mut self, p: usize)
-        requires ready { IsReady self.old }
+        requires ready { IsMachine self.old }
         requires worker { p < length self.old.processors.items }
-        ensures ready { IsReady self.new }
+        ensures ready { IsMachine self.new }
         ensures state { shown self.new ≡ past_quiet (model_of self.old) (shared_in self.old)
             (shown self.old) p }
         ensures same { IsSameMachine self.old self.new }
@@ -182,29 +182,29 @@ impl<'a> Machine<'a> {
 
     // The act that comes next of a processor, where it is on its own cells; whether it is.
     fn act_quietly(&mut self, p: usize) -> bool
-        requires ready { IsReady self.old }
+        requires ready { IsMachine self.old }
         requires worker { p < length self.old.processors.items }
-        ensures ready { IsReady self.new }
+        ensures ready { IsMachine self.new }
         ensures quiet { result
             ≡ nat_lt 0 (quiet_next (model_of self.old) (shared_in self.old) (shown self.old) p) }
         ensures acts { GoesQuietly self.old self.new p result }
         ensures same { IsSameMachine self.old self.new }
     {
         match self.peek(p) {
-            StyledNext::Work(stop) => self.work_quietly(p, stop),
-            StyledNext::Close(place) => self.close_quietly(p, place),
-            StyledNext::Post(_) | StyledNext::Await { .. } => false,
-            StyledNext::Signal(_) | StyledNext::AwaitSignal { .. } => false,
-            StyledNext::End => false,
+            Next::Work(stop) => self.work_quietly(p, stop),
+            Next::Close(place) => self.close_quietly(p, place),
+            Next::Post(_) | Next::Await { .. } => false,
+            Next::Signal(_) | Next::AwaitSignal { .. } => false,
+            Next::End => false,
         }
     }
 
     // The same at an instance.
     fn work_quietly(&mut self, p: usize, stop: Stop<'a>) -> bool
-        requires ready { IsReady self.old }
+        requires ready { IsMachine self.old }
         requires worker { p < length self.old.processors.items }
-        requires next { ComesNext self.old p (StyledNext.Work stop) }
-        ensures ready { IsReady self.new }
+        requires next { ComesNext self.old p (Next.Work stop) }
+        ensures ready { IsMachine self.new }
         ensures quiet { result
             ≡ nat_lt 0 (quiet_next (model_of self.old) (shared_in self.old) (shown self.old) p) }
         ensures acts { GoesQuietly self.old self.new p result }
@@ -220,11 +220,11 @@ impl<'a> Machine<'a> {
 
     // The same where a load of this cell is left.
     fn load_quietly(&mut self, p: usize, stop: Stop<'a>, cell: usize) -> bool
-        requires ready { IsReady self.old }
+        requires ready { IsMachine self.old }
         requires worker { p < length self.old.processors.items }
-        requires next { ComesNext self.old p (StyledNext.Work stop) }
+        requires next { ComesNext self.old p (Next.Work stop) }
         requires left { LoadsNext self.old p stop (Some cell) }
-        ensures ready { IsReady self.new }
+        ensures ready { IsMachine self.new }
         ensures quiet { result
             ≡ nat_lt 0 (quiet_next (model_of self.old) (shared_in self.old) (shown self.old) p) }
         ensures acts { GoesQuietly self.old self.new p result }
@@ -240,11 +240,11 @@ impl<'a> Machine<'a> {
 
     // And where all loads are done.
     fn store_quietly(&mut self, p: usize, stop: Stop<'a>) -> bool
-        requires ready { IsReady self.old }
+        requires ready { IsMachine self.old }
         requires worker { p < length self.old.processors.items }
-        requires next { ComesNext self.old p (StyledNext.Work stop) }
+        requires next { ComesNext self.old p (Next.Work stop) }
         requires loaded { LoadsNext self.old p stop None }
-        ensures ready { IsReady self.new }
+        ensures ready { IsMachine self.new }
         ensures quiet { result
             ≡ nat_lt 0 (quiet_next (model_of self.old) (shared_in self.old) (shown self.old) p) }
         ensures acts { GoesQuietly self.old self.new p result }
@@ -259,13 +259,13 @@ impl<'a> Machine<'a> {
 
     // The same at an assignment.
     fn assign_quietly(&mut self, p: usize, stop: Stop<'a>) -> bool
-        requires ready { IsReady self.old }
+        requires ready { IsMachine self.old }
         requires worker { p < length self.old.processors.items }
-        requires next { ComesNext self.old p (StyledNext.Work stop) }
+        requires next { ComesNext self.old p (Next.Work stop) }
         requires loaded { LoadsNext self.old p stop None }
         requires statement { (target : Access) × (e : Expr) × (guard : Option Guard) × (line : ℕ)
             × (stop.item.now ≡ Item.Assign target e guard line) }
-        ensures ready { IsReady self.new }
+        ensures ready { IsMachine self.new }
         ensures quiet { result
             ≡ nat_lt 0 (quiet_next (model_of self.old) (shared_in self.old) (shown self.old) p) }
         ensures acts { GoesQuietly self.old self.new p result }
@@ -282,9 +282,9 @@ impl<'a> Machine<'a> {
     // Where the store of an assignment whose loads are done goes.
     #[inline(always)]
     fn store_spot(&self, p: usize, stop: Stop<'a>) -> Spot
-        requires ready { IsReady self.now }
+        requires ready { IsMachine self.now }
         requires worker { p < length self.now.processors.items }
-        requires next { ComesNext self.now p (StyledNext.Work stop) }
+        requires next { ComesNext self.now p (Next.Work stop) }
         requires loaded { LoadsNext self.now p stop None }
         requires statement { (target : Access) × (e : Expr) × (guard : Option Guard) × (line : ℕ)
             × (stop.item.now ≡ Item.Assign target e guard line) }
@@ -301,10 +301,10 @@ impl<'a> Machine<'a> {
 
     // The act of a closing that comes next, where it is on its own cell; whether it is.
     fn close_quietly(&mut self, p: usize, place: usize) -> bool
-        requires ready { IsReady self.old }
+        requires ready { IsMachine self.old }
         requires worker { p < length self.old.processors.items }
-        requires next { ComesNext self.old p (StyledNext.Close place) }
-        ensures ready { IsReady self.new }
+        requires next { ComesNext self.old p (Next.Close place) }
+        ensures ready { IsMachine self.new }
         ensures quiet { result
             ≡ nat_lt 0 (quiet_next (model_of self.old) (shared_in self.old) (shown self.old) p) }
         ensures acts { GoesQuietly self.old self.new p result }
@@ -320,27 +320,27 @@ impl<'a> Machine<'a> {
     // The act that comes next.
     #[inline(always)]
     fn act(&mut self, p: usize) -> StepAnswer
-        requires ready { IsReady self.old }
+        requires ready { IsMachine self.old }
         requires worker { p < length self.old.processors.items }
         ensures { StepsTo self.old self.new p result }
     {
         match self.peek(p) {
-            StyledNext::Post(number) => self.post(p, number),
-            StyledNext::Await { on, wanted } => self.await_counter(p, on, wanted),
-            StyledNext::Signal(number) => self.signal(p, number),
-            StyledNext::AwaitSignal { on, wanted } => self.await_signal(p, on, wanted),
-            StyledNext::Work(stop) => self.work(p, stop),
-            StyledNext::Close(place) => self.close(p, place),
-            StyledNext::End => StepAnswer::Ended,
+            Next::Post(number) => self.post(p, number),
+            Next::Await { on, wanted } => self.await_counter(p, on, wanted),
+            Next::Signal(number) => self.signal(p, number),
+            Next::AwaitSignal { on, wanted } => self.await_signal(p, on, wanted),
+            Next::Work(stop) => self.work(p, stop),
+            Next::Close(place) => self.close(p, place),
+            Next::End => StepAnswer::Ended,
         }
     }
 
     // What comes next.
     #[inline(always)]
-    fn peek(&mut self, p: usize) -> StyledNext<'a>
-        requires ready { IsReady self.old }
+    fn peek(&mut self, p: usize) -> Next<'a>
+        requires ready { IsMachine self.old }
         requires worker { p < length self.old.processors.items }
-        ensures ready { IsReady self.new }
+        ensures ready { IsMachine self.new }
         ensures next { ComesNext self.new p result }
         ensures state { shown self.new ≡ shown self.old }
         ensures same { IsSameMachine self.old self.new }
@@ -350,66 +350,66 @@ impl<'a> Machine<'a> {
 
     // A post.
     fn post(&mut self, p: usize, number: u64) -> StepAnswer
-        requires ready { IsReady self.old }
+        requires ready { IsMachine self.old }
         requires worker { p < length self.old.processors.items }
-        requires next { ComesNext self.old p (StyledNext.Post number) }
+        requires next { ComesNext self.old p (Next.Post number) }
         ensures { StepsTo self.old self.new p result }
     {
         let processor = &mut self.processors[p];
         processor.counter = number;
-        processor.finish(StyledNext::Post(number));
+        processor.finish(Next::Post(number));
         StepAnswer::Stepped
     }
 
     // A signal.
     fn signal(&mut self, p: usize, number: u64) -> StepAnswer
-        requires ready { IsReady self.old }
+        requires ready { IsMachine self.old }
         requires worker { p < length self.old.processors.items }
-        requires next { ComesNext self.old p (StyledNext.Signal number) }
+        requires next { ComesNext self.old p (Next.Signal number) }
         ensures { StepsTo self.old self.new p result }
     {
         let processor = &mut self.processors[p];
         processor.signal = number;
-        processor.finish(StyledNext::Signal(number));
+        processor.finish(Next::Signal(number));
         StepAnswer::Stepped
     }
 
     // An await of a counter, where it is possible.
     fn await_counter(&mut self, p: usize, on: u32, wanted: u64) -> StepAnswer
-        requires ready { IsReady self.old }
+        requires ready { IsMachine self.old }
         requires worker { p < length self.old.processors.items }
-        requires next { ComesNext self.old p (StyledNext.Await on wanted) }
+        requires next { ComesNext self.old p (Next.Await on wanted) }
         ensures { StepsTo self.old self.new p result }
     {
         let seen = self.processors[on as usize].counter;
         if seen < wanted {
             return StepAnswer::Blocked { on, wanted, seen };
         }
-        self.processors[p].finish(StyledNext::Await { on, wanted });
+        self.processors[p].finish(Next::Await { on, wanted });
         StepAnswer::Stepped
     }
 
     // An await of a signal, where it is possible.
     fn await_signal(&mut self, p: usize, on: u32, wanted: u64) -> StepAnswer
-        requires ready { IsReady self.old }
+        requires ready { IsMachine self.old }
         requires worker { p < length self.old.processors.items }
-        requires next { ComesNext self.old p (StyledNext.AwaitSignal on wanted) }
+        requires next { ComesNext self.old p (Next.AwaitSignal on wanted) }
         ensures { StepsTo self.old self.new p result }
     {
         let seen = self.processors[on as usize].signal;
         if seen < wanted {
             return StepAnswer::Blocked { on, wanted, seen };
         }
-        self.processors[p].finish(StyledNext::AwaitSignal { on, wanted });
+        self.processors[p].finish(Next::AwaitSignal { on, wanted });
         StepAnswer::Stepped
     }
 
     // A load, a store or a PRINT of the instance at this stop.
     #[inline(always)]
     fn work(&mut self, p: usize, stop: Stop<'a>) -> StepAnswer
-        requires ready { IsReady self.old }
+        requires ready { IsMachine self.old }
         requires worker { p < length self.old.processors.items }
-        requires next { ComesNext self.old p (StyledNext.Work stop) }
+        requires next { ComesNext self.old p (Next.Work stop) }
         ensures { StepsTo self.old self.new p result }
     {
         let processor = &self.processors[p];
@@ -424,9 +424,9 @@ impl<'a> Machine<'a> {
     // The store or the PRINT of an instance whose loads are done.
     #[inline(always)]
     fn last_act(&mut self, p: usize, stop: Stop<'a>) -> StepAnswer
-        requires ready { IsReady self.old }
+        requires ready { IsMachine self.old }
         requires worker { p < length self.old.processors.items }
-        requires next { ComesNext self.old p (StyledNext.Work stop) }
+        requires next { ComesNext self.old p (Next.Work stop) }
         requires loaded { LoadsNext self.old p stop None }
         ensures { StepsTo self.old self.new p result }
     {
@@ -443,9 +443,9 @@ impl<'a> Machine<'a> {
     // A load of the cell of this spot, or of the processor's own one in its place.
     #[inline(always)]
     fn load(&mut self, p: usize, stop: Stop<'a>, spot: Spot) -> StepAnswer
-        requires ready { IsReady self.old }
+        requires ready { IsMachine self.old }
         requires worker { p < length self.old.processors.items }
-        requires next { ComesNext self.old p (StyledNext.Work stop) }
+        requires next { ComesNext self.old p (Next.Work stop) }
         requires left { LoadsNext self.old p stop (Some spot.cell) }
         requires own { IsSpot self.old p spot }
         ensures { StepsTo self.old self.new p result }
@@ -465,9 +465,9 @@ impl<'a> Machine<'a> {
     // The store of an assignment whose loads are done, to its cell or the processor's own one.
     #[inline(always)]
     fn store(&mut self, p: usize, stop: Stop<'a>, spot: Spot) -> StepAnswer
-        requires ready { IsReady self.old }
+        requires ready { IsMachine self.old }
         requires worker { p < length self.old.processors.items }
-        requires next { ComesNext self.old p (StyledNext.Work stop) }
+        requires next { ComesNext self.old p (Next.Work stop) }
         requires loaded { LoadsNext self.old p stop None }
         requires statement { (target : Access) × (e : Expr) × (guard : Option Guard) × (line : ℕ)
             × (stop.item.now ≡ Item.Assign target e guard line) }
@@ -489,15 +489,15 @@ impl<'a> Machine<'a> {
             Some(place) => processor.own[place] = value,
             None => self.memory[spot.cell] = value,
         }
-        processor.finish(StyledNext::Work(stop));
+        processor.finish(Next::Work(stop));
         StepAnswer::Stepped
     }
 
     // The line of a PRINT whose loads are done.
     fn print(&mut self, p: usize, stop: Stop<'a>, items: &[PrintItem]) -> StepAnswer
-        requires ready { IsReady self.old }
+        requires ready { IsMachine self.old }
         requires worker { p < length self.old.processors.items }
-        requires next { ComesNext self.old p (StyledNext.Work stop) }
+        requires next { ComesNext self.old p (Next.Work stop) }
         requires loaded { LoadsNext self.old p stop None }
         requires statement { (listed : Vec PrintItem Global) × (line : ℕ)
             × (stop.item.now ≡ Item.Print listed line) × (items.now ≡ listed.items) }
@@ -511,16 +511,16 @@ impl<'a> Machine<'a> {
             loaded: &processor.registers,
         };
         self.output.push_line(self.program, items, &given).unwrap();
-        processor.finish(StyledNext::Work(stop));
+        processor.finish(Next::Work(stop));
         StepAnswer::Stepped
     }
 
     // An act of a closing: the load of the own cell; its value to the shared one; and behind an
     // addition 0 to the own cell.
     fn close(&mut self, p: usize, place: usize) -> StepAnswer
-        requires ready { IsReady self.old }
+        requires ready { IsMachine self.old }
         requires worker { p < length self.old.processors.items }
-        requires next { ComesNext self.old p (StyledNext.Close place) }
+        requires next { ComesNext self.old p (Next.Close place) }
         ensures { StepsTo self.old self.new p result }
     {
         let done = self.processors[p].done;
@@ -534,9 +534,9 @@ impl<'a> Machine<'a> {
     }
 
     fn load_total(&mut self, p: usize, place: usize) -> StepAnswer
-        requires ready { IsReady self.old }
+        requires ready { IsMachine self.old }
         requires worker { p < length self.old.processors.items }
-        requires next { ComesNext self.old p (StyledNext.Close place) }
+        requires next { ComesNext self.old p (Next.Close place) }
         requires none { HasDone self.old p 0 }
         ensures { StepsTo self.old self.new p result }
     {
@@ -548,9 +548,9 @@ impl<'a> Machine<'a> {
     }
 
     fn give_total(&mut self, p: usize, place: usize) -> StepAnswer
-        requires ready { IsReady self.old }
+        requires ready { IsMachine self.old }
         requires worker { p < length self.old.processors.items }
-        requires next { ComesNext self.old p (StyledNext.Close place) }
+        requires next { ComesNext self.old p (Next.Close place) }
         requires loaded { HasDone self.old p 1 }
         ensures { StepsTo self.old self.new p result }
     {
@@ -563,29 +563,29 @@ impl<'a> Machine<'a> {
             processor.done = 2;
         } else {
             self.memory[cell] = value;
-            processor.finish(StyledNext::Close(place));
+            processor.finish(Next::Close(place));
         }
         StepAnswer::Stepped
     }
 
     fn clear_total(&mut self, p: usize, place: usize) -> StepAnswer
-        requires ready { IsReady self.old }
+        requires ready { IsMachine self.old }
         requires worker { p < length self.old.processors.items }
-        requires next { ComesNext self.old p (StyledNext.Close place) }
+        requires next { ComesNext self.old p (Next.Close place) }
         requires added { HasDone self.old p 2 }
         ensures { StepsTo self.old self.new p result }
     {
         let processor = &mut self.processors[p];
         processor.own[place] = 0;
-        processor.finish(StyledNext::Close(place));
+        processor.finish(Next::Close(place));
         StepAnswer::Stepped
     }
 
     /// The steps of a schedule, a list of processor numbers, one after another.
     pub fn run_schedule(&mut self, schedule: &[u32])
-        requires ready { IsReady self.old }
+        requires ready { IsMachine self.old }
         requires workers { All (λ p. p < (plan_in self.old).workers) schedule.now }
-        ensures ready { IsReady self.new }
+        ensures ready { IsMachine self.new }
         ensures run { shown self.new ≡ fold (turned (model_of self.old) (shared_in self.old))
             (shown self.old) schedule.now }
         ensures same { IsSameMachine self.old self.new }
@@ -597,8 +597,8 @@ impl<'a> Machine<'a> {
 
     /// Rounds of one step per processor until all have ended.
     pub fn round_robin(&mut self)
-        requires ready { IsReady self.old }
-        ensures ready { IsReady self.new }
+        requires ready { IsMachine self.old }
+        ensures ready { IsMachine self.new }
         ensures rounds { (count : ℕ)
             × (shown self.new ≡ fold (turned (model_of self.old) (shared_in self.old))
             (shown self.old) (rounds (model_of self.old) count)) }
@@ -614,8 +614,8 @@ impl<'a> Machine<'a> {
 
     // One step of each processor; whether one of them did its next act.
     fn round(&mut self) -> bool
-        requires ready { IsReady self.old }
-        ensures ready { IsReady self.new }
+        requires ready { IsMachine self.old }
+        ensures ready { IsMachine self.new }
         ensures run { shown self.new ≡ fold (turned (model_of self.old) (shared_in self.old))
             (shown self.old) (one_round (model_of self.old)) }
         ensures nearer { result ≡ true
@@ -636,7 +636,7 @@ impl<'a> Machine<'a> {
 
     /// The memory, cell by cell, of the cells that all share.
     pub fn memory(&self) -> &[i64]
-        requires ready { IsReady self.now }
+        requires ready { IsMachine self.now }
         ensures shown { result.now ≡ take (shared_in self.now) (shown self.now).memory }
         ensures last { IsOrdered (tree_in self.now) (plan_in self.now)
             → IsEnded (model_of self.now) (shown self.now)
@@ -647,7 +647,7 @@ impl<'a> Machine<'a> {
 
     /// The lines printed so far.
     pub fn output(&self) -> &Output
-        requires ready { IsReady self.now }
+        requires ready { IsMachine self.now }
         ensures shown { result.now.bytes ≡ (shown self.now).output }
         ensures front { IsOrdered (tree_in self.now) (plan_in self.now) → (rest : List ℕ)
             × (result.now.bytes ++ rest ≡ output_of (tree_in self.now)) }
@@ -676,7 +676,7 @@ fn processors_of<'a>(
     let mut processors = Vec::new(alloc);
     for p in 0..plan.workers {
         processors.push(Processor {
-            turns: StyledTurns::new(program, plan, style, p),
+            turns: Turns::new(program, plan, style, p),
             registers: Vec::with_capacity(alloc, room)?,
             found: None,
             place: LoadPlace::first(),

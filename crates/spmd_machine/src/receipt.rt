@@ -6,7 +6,7 @@ ghost use Rattle.nest_model.specs.Memory.{last_memory};
 ghost use Rattle.sync_plan.specs.Ordered.{IsOrdered};
 ghost use Rattle.spmd_model.specs.States.{IsEnded};
 ghost use Rattle.spmd_machine.specs.Ends.{HasRun};
-ghost use Rattle.spmd_machine.specs.Machines.{IsReady, model_of, plan_in, shared_in, shown, style_in, tree_in};
+ghost use Rattle.spmd_machine.specs.Machines.{IsMachine, model_of, plan_in, shared_in, shown, style_in, tree_in};
 
 use crate::machine::Machine;
 use nest_tree::Program;
@@ -52,7 +52,7 @@ impl Model for Receipt {
 impl Receipt {
     /// The receipt of a machine whose processors have all ended.
     pub fn of(machine: Machine<'_>) -> Receipt
-        requires ready { IsReady machine }
+        requires ready { IsMachine machine }
         requires ended { IsEnded (model_of machine) (shown machine) }
         ensures program { tree_of result.program ≡ tree_in machine.entry }
         ensures plan { result.plan ≡ plan_in machine.entry }

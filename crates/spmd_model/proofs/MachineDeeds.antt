@@ -171,8 +171,8 @@ along_phases style tree plan p e passed (v ∷ vs) worker anchors =
     ∙ ap (λ l. l ++ flat_map (moment_deeds p) later) (phase_deeds style tree plan p e passed v here.0 worker here.1)
     ∙ ap (λ l. part_deeds style tree plan p e passed v ++ l) (along_phases style tree plan p (suc e) (passed + signal_barriers style plan v) vs worker (λ k w at. anchors (suc k) w at))
 
-pub styled_deeds : (style : Style) (tree : Tree) (plan : Plan) (p : ℕ) → IsWellFormed tree → IsFit tree plan → p < plan.workers →
+pub acts_do : (style : Style) (tree : Tree) (plan : Plan) (p : ℕ) → IsWellFormed tree → IsFit tree plan → p < plan.workers →
     map (deed_of (machine_by style tree plan)) (acts_of (machine_by style tree plan) p) ≡ deeds_by style tree plan p 1 0 (phases tree plan.cut.marks)
-styled_deeds style tree plan p formed fits worker =
+acts_do style tree plan p formed fits worker =
     deeds_along (machine_by style tree plan) p 0 (timeline_by style tree plan) (λ k x at. ap (slice_get (timeline_by style tree plan)) (zero-add k) ∙ at)
     ∙ along_phases style tree plan p 1 0 (phases tree plan.cut.marks) worker (anchored tree plan formed fits)

@@ -9,8 +9,8 @@ use Rattle.sync_plan.specs.declared.plan.Plan.{Plan}
 use Rattle.own_cells.specs.OwnCells.{AreOwnCells}
 use Rattle.own_cells.specs.declared.cells.OwnCells.{OwnCells}
 use Rattle.spmd_model.specs.Deeds.{Deed, loading, printing, storing}
-use Rattle.styled_turns.specs.StyledLeft.{styled_place}
-use Rattle.styled_turns.specs.declared.turns.StyledTurns.{StyledTurns}
+use Rattle.turns.specs.TurnsLeft.{turns_place}
+use Rattle.turns.specs.declared.turns.Turns.{Turns}
 use Rattle.shared_words.specs.Calls.{LoadsNext, StoresNext}
 use Rattle.shared_words.specs.Homes.{CellView, Home, gone, loaded_next, protocol_at, stored_next}
 use Rattle.fork_join.proofs.SeenDeeds.{slot_small}
@@ -116,29 +116,29 @@ same_slot a b = Prim.hlevel props
 below_prop : (a b : ℕ) → IsProp (a < b)
 below_prop a b = Prim.hlevel props
 
-module _ (h : Home) (t : StyledTurns) (o : OwnCells) (known : ∥ AreKnown h t o ∥₁) (cell : ℕ) (found : Option ℕ) where
-  pub its_slot : ((tree : Tree) → (plan : Plan) → (place : ℕ) → AreOwnCells tree (own_loop tree plan place) o → found ≡ (own_of tree plan place).slot cell) → found ≡ (own_of (tree_at h) (plan_at h) (styled_place t)).slot cell
-  its_slot is = ∥∥₁_elim known (same_slot found ((own_of (tree_at h) (plan_at h) (styled_place t)).slot cell)) (λ k. is (tree_at h) (plan_at h) (styled_place t) k.cells)
+module _ (h : Home) (t : Turns) (o : OwnCells) (known : ∥ AreKnown h t o ∥₁) (cell : ℕ) (found : Option ℕ) where
+  pub its_slot : ((tree : Tree) → (plan : Plan) → (place : ℕ) → AreOwnCells tree (own_loop tree plan place) o → found ≡ (own_of tree plan place).slot cell) → found ≡ (own_of (tree_at h) (plan_at h) (turns_place t)).slot cell
+  its_slot is = ∥∥₁_elim known (same_slot found ((own_of (tree_at h) (plan_at h) (turns_place t)).slot cell)) (λ k. is (tree_at h) (plan_at h) (turns_place t) k.cells)
 
-  pub its_small : found ≡ (own_of (tree_at h) (plan_at h) (styled_place t)).slot cell → (k : ℕ) → found ≡ Some k → k < 32
-  its_small at k some = ∥∥₁_elim known (below_prop k 32) (λ a. slot_small (tree_at h) (plan_at h) (styled_place t) 0 a.few cell k (sym some ∙ at))
+  pub its_small : found ≡ (own_of (tree_at h) (plan_at h) (turns_place t)).slot cell → (k : ℕ) → found ≡ Some k → k < 32
+  its_small at k some = ∥∥₁_elim known (below_prop k 32) (λ a. slot_small (tree_at h) (plan_at h) (turns_place t) 0 a.few cell k (sym some ∙ at))
 
-module _ (h : Home) (t : StyledTurns) (p cell : ℕ) (found : Option ℕ) (at : found ≡ (own_of (tree_at h) (plan_at h) (styled_place t)).slot cell) where
+module _ (h : Home) (t : Turns) (p cell : ℕ) (found : Option ℕ) (at : found ≡ (own_of (tree_at h) (plan_at h) (turns_place t)).slot cell) where
   abbrev f : Deed → Deed
-  f = phase_deed (tree_at h) (plan_at h) (styled_place t) p
+  f = phase_deed (tree_at h) (plan_at h) (turns_place t) p
 
   pub shared_back : found ≡ None → (d : Deed) → f d ≡ loading cell → (d ≡ loading cell) × (cell < cell_count (tree_at h))
   shared_back none d same =
-      let (deed, below) = own_load (tree_at h) (plan_at h) (styled_place t) p cell d same in
-      (deed ∙ ap (λ o. loading (at_slot (own_of (tree_at h) (plan_at h) (styled_place t)) p cell o)) (sym at ∙ none), below)
+      let (deed, below) = own_load (tree_at h) (plan_at h) (turns_place t) p cell d same in
+      (deed ∙ ap (λ o. loading (at_slot (own_of (tree_at h) (plan_at h) (turns_place t)) p cell o)) (sym at ∙ none), below)
 
   pub own_back : (k : ℕ) → found ≡ Some k → (d : Deed) → f d ≡ loading cell → d ≡ loading (own_place h p k)
-  own_back k some d same = (own_load (tree_at h) (plan_at h) (styled_place t) p cell d same).0 ∙ ap (λ o. loading (at_slot (own_of (tree_at h) (plan_at h) (styled_place t)) p cell o)) (sym at ∙ some)
+  own_back k some d same = (own_load (tree_at h) (plan_at h) (turns_place t) p cell d same).0 ∙ ap (λ o. loading (at_slot (own_of (tree_at h) (plan_at h) (turns_place t)) p cell o)) (sym at ∙ some)
 
   pub shared_store_back : (value : List ℤ → ℤ) → found ≡ None → (d : Deed) → f d ≡ storing cell value → (d ≡ storing cell value) × (cell < cell_count (tree_at h))
   shared_store_back value none d same =
-      let (deed, below) = own_store (tree_at h) (plan_at h) (styled_place t) p cell value d same in
-      (deed ∙ ap (λ o. storing (at_slot (own_of (tree_at h) (plan_at h) (styled_place t)) p cell o) value) (sym at ∙ none), below)
+      let (deed, below) = own_store (tree_at h) (plan_at h) (turns_place t) p cell value d same in
+      (deed ∙ ap (λ o. storing (at_slot (own_of (tree_at h) (plan_at h) (turns_place t)) p cell o) value) (sym at ∙ none), below)
 
   pub own_store_back : (value : List ℤ → ℤ) (k : ℕ) → found ≡ Some k → (d : Deed) → f d ≡ storing cell value → d ≡ storing (own_place h p k) value
-  own_store_back value k some d same = (own_store (tree_at h) (plan_at h) (styled_place t) p cell value d same).0 ∙ ap (λ o. storing (at_slot (own_of (tree_at h) (plan_at h) (styled_place t)) p cell o) value) (sym at ∙ some)
+  own_store_back value k some d same = (own_store (tree_at h) (plan_at h) (turns_place t) p cell value d same).0 ∙ ap (λ o. storing (at_slot (own_of (tree_at h) (plan_at h) (turns_place t)) p cell o) value) (sym at ∙ some)

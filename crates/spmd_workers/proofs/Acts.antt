@@ -9,7 +9,7 @@ use Rattle.spmd_model.specs.Timelines as Timelines
 use Rattle.spmd_model.specs.Timelines.{Act, Word, post, await, load, store, add, print}
 use Rattle.spmd_model.specs.Protocols.{act_at, is_passed, passed_first, settled}
 use Rattle.spmd_model.proofs.Deeds.{await_is}
-use Rattle.spmd_turns.proofs.LoadPlaces.{drop_there}
+use Rattle.instance_runs.proofs.LoadPlaces.{drop_there}
 use Rattle.shared_words.specs.Places.{settled_at}
 use Rattle.shared_words.specs.Homes.{Home, protocol_at}
 use Rattle.spmd_workers.specs.Held.{AreHeld}

@@ -9,17 +9,17 @@ use Rattle.own_cells.specs.OwnCells.{shared_cell}
 use Rattle.spmd_model.specs.Closings.{given_first}
 use Rattle.spmd_model.specs.Deeds.{Deed, adding, storing}
 use Rattle.spmd_model.specs.MachineDeeds.{keeping_deeds, totalling_deeds}
-use Rattle.spmd_turns.specs.Executors.{CanExecute, executor_output, executor_room, executor_tree}
-use Rattle.styled_turns.specs.StyledTurns.{closes, scalar_at}
-use Rattle.styled_turns.specs.StyledLeft.{AreStyled, IsSameRun, IsStyledNext, beginnings_left, styled_left, styled_own, styled_place, styled_plan}
-use Rattle.styled_turns.specs.declared.turns.StyledNext.TheVariants.{Close}
+use Rattle.instance_runs.specs.Executors.{CanExecute, executor_output, executor_room, executor_tree}
+use Rattle.turns.specs.Turns.{closes, scalar_at}
+use Rattle.turns.specs.TurnsLeft.{AreSound, IsSameRun, IsNext, beginnings_left, turns_left, turns_own, turns_place, turns_plan}
+use Rattle.turns.specs.declared.turns.Next.TheVariants.{Close}
 use Rattle.shared_words.specs.Calls.{AddsNext, StoresNext}
 use Rattle.shared_words.specs.Homes.{CellView, Home, gone, protocol_at, stored_next}
 use Rattle.spmd_workers.specs.Held.{AreHeld}
 use Rattle.spmd_workers.specs.Places.{deeds_in, left_behind, own_place, place_of, plan_at, printed_behind, registers_behind, tree_at}
-use Rattle.spmd_workers.specs.Walks.{GoesTo, IsReady, LeadsOn, walk_place}
+use Rattle.spmd_workers.specs.Walks.{GoesTo, IsWalk, LeadsOn, walk_place}
 use Rattle.spmd_workers.specs.declared.walk.Walk.{Walk}
-use Rattle.styled_turns.proofs.OwnPlaces.{not_small, scalar_below, shared_there}
+use Rattle.turns.proofs.OwnPlaces.{not_small, scalar_below, shared_there}
 use Rattle.spmd_workers.proofs.SharedSteps.{add_left, add_printed, add_value, adds_next, own_load_left, own_load_printed, own_load_registers, own_store_left, own_store_printed, own_store_registers, store_left, store_printed, store_registers, store_value, stores_next}
 use Rattle.spmd_workers.proofs.Steps.{come_on, seat_gone}
 use Rattle.spmd_workers.proofs.Turned.{AreNoPosts, turns_go, turns_lead}
@@ -31,7 +31,7 @@ small_place k low = elim (cases_Bool (nat_lt k 16)) [
   | inr big ↦ absurd (true≢false (sym (le-leb 16 k (ltb-false k 16 big)) ∙ low))
 ]
 
-module _ (x : Walk) (ready : IsReady x) (held : AreHeld x.seat.home) (k : ℕ) (next : IsStyledNext x.turns (Close k)) where
+module _ (x : Walk) (ready : IsWalk x) (held : AreHeld x.seat.home) (k : ℕ) (next : IsNext x.turns (Close k)) where
   abbrev h : Home
   h = x.seat.home
 
@@ -45,7 +45,7 @@ module _ (x : Walk) (ready : IsReady x) (held : AreHeld x.seat.home) (k : ℕ) (
   from = own_place h p k
 
   abbrev to : ℕ
-  to = first_cell (tree_at h) (scalar_at (own_loop (tree_at h) (plan_at h) (styled_place x.turns)) k)
+  to = first_cell (tree_at h) (scalar_at (own_loop (tree_at h) (plan_at h) (turns_place x.turns)) k)
 
   -- the own cell's value
   abbrev total : ℤ
@@ -61,15 +61,15 @@ module _ (x : Walk) (ready : IsReady x) (held : AreHeld x.seat.home) (k : ℕ) (
   few = next.1.small
 
   -- the cell that all share is the program's
-  pub shared_is : shared_cell (styled_own x.turns) k ≡ Some to
+  pub shared_is : shared_cell (turns_own x.turns) k ≡ Some to
   shared_is =
-      subst (λ (q : Plan). shared_cell (styled_own x.turns) k ≡ Some (first_cell (tree_at h) (scalar_at (own_loop (tree_at h) q (styled_place x.turns)) k))) ready.plan
-      (subst (λ (t : Tree). shared_cell (styled_own x.turns) k ≡ Some (first_cell t (scalar_at (own_loop t (styled_plan x.turns) (styled_place x.turns)) k))) ready.tree (shared_there x.turns ready.sound k next.1))
+      subst (λ (q : Plan). shared_cell (turns_own x.turns) k ≡ Some (first_cell (tree_at h) (scalar_at (own_loop (tree_at h) q (turns_place x.turns)) k))) ready.plan
+      (subst (λ (t : Tree). shared_cell (turns_own x.turns) k ≡ Some (first_cell t (scalar_at (own_loop t (turns_plan x.turns) (turns_place x.turns)) k))) ready.tree (shared_there x.turns ready.sound k next.1))
 
   to_below : to < cell_count (tree_at h)
   to_below =
-      subst (λ (q : Plan). first_cell (tree_at h) (scalar_at (own_loop (tree_at h) q (styled_place x.turns)) k) < cell_count (tree_at h)) ready.plan
-      (subst (λ (t : Tree). first_cell t (scalar_at (own_loop t (styled_plan x.turns) (styled_place x.turns)) k) < cell_count t) ready.tree (scalar_below x.turns ready.sound k next.1))
+      subst (λ (q : Plan). first_cell (tree_at h) (scalar_at (own_loop (tree_at h) q (turns_place x.turns)) k) < cell_count (tree_at h)) ready.plan
+      (subst (λ (t : Tree). first_cell t (scalar_at (own_loop t (turns_plan x.turns) (turns_place x.turns)) k) < cell_count t) ready.tree (scalar_below x.turns ready.sound k next.1))
 
   deeds_by : (b : Bool) → nat_lt k 16 ≡ b → left_behind x.seat x.seat x.own n ≡ (if b then keeping_deeds from to else totalling_deeds from to) ++ behind_it
   deeds_by b is = walk_left x ready ∙ ap (deeds_in h p) next.0.1 ∙ ap (λ c. (if c then keeping_deeds from to else totalling_deeds from to) ++ behind_it) is
@@ -78,7 +78,7 @@ module _ (x : Walk) (ready : IsReady x) (held : AreHeld x.seat.home) (k : ℕ) (
   no_post true is = (tt, (tt, tt))
   no_post false is = (tt, (tt, (tt, tt)))
 
-  none : (b : Bool) → nat_lt k 16 ≡ b → AreNoPosts (deeds_in h p (closes (styled_place x.turns) k ∷ []))
+  none : (b : Bool) → nat_lt k 16 ≡ b → AreNoPosts (deeds_in h p (closes (turns_place x.turns) k ∷ []))
   none b is = subst (λ c. AreNoPosts ((if c then keeping_deeds from to else totalling_deeds from to) ++ [])) (sym is) (no_post b is)
 
   -- ---- a private scalar's
@@ -102,12 +102,12 @@ module _ (x : Walk) (ready : IsReady x) (held : AreHeld x.seat.home) (k : ℕ) (
     pub keeps_value : total ≡ stored_next x.seat
     keeps_value = store_value x.seat x.seat held below x.own (n + 1) behind_it to given_first loaded to_below total (sym (ap given_first given))
 
-    module _ (y : Walk) (seat : y.seat ≡ gone x.seat) (own : y.own ≡ x.own) (executor : y.executor ≡ x.executor) (answered : y.answered ≡ x.answered) (over : y.ended ≡ x.ended) (sound : AreStyled y.turns) (run : IsSameRun x.turns y.turns) (begins : beginnings_left y.turns ≡ beginnings_left x.turns)
-        (turns : styled_left x.turns ≡ closes (styled_place x.turns) k ∷ styled_left y.turns) (rest : next.0.0 ≡ styled_left y.turns) where
+    module _ (y : Walk) (seat : y.seat ≡ gone x.seat) (own : y.own ≡ x.own) (executor : y.executor ≡ x.executor) (answered : y.answered ≡ x.answered) (over : y.ended ≡ x.ended) (sound : AreSound y.turns) (run : IsSameRun x.turns y.turns) (begins : beginnings_left y.turns ≡ beginnings_left x.turns)
+        (turns : turns_left x.turns ≡ closes (turns_place x.turns) k ∷ turns_left y.turns) (rest : next.0.0 ≡ turns_left y.turns) where
       moved : {Y : Type 0} (f : CellView → ℕ → Y) → f y.seat (place_of y.seat x.turns + 2) ≡ f (gone x.seat) (n + 1 + 1)
       moved f = (λ i. f (seat i) (place_of (seat i) x.turns + 2)) ∙ ap (f (gone x.seat)) (omega arith)
 
-      kept_left : length (left_behind x.seat y.seat y.own (place_of y.seat x.turns + 2)) ≡ length (deeds_in h p (styled_left y.turns))
+      kept_left : length (left_behind x.seat y.seat y.own (place_of y.seat x.turns + 2)) ≡ length (deeds_in h p (turns_left y.turns))
       kept_left =
           ap (λ (l : List Deed). length l) (ap (λ o. left_behind x.seat y.seat o (place_of y.seat x.turns + 2)) own ∙ moved (λ v j. left_behind x.seat v x.own j) ∙ store_left x.seat x.seat held below x.own (n + 1) behind_it to given_first loaded to_below)
           ∙ ap (λ ts. length (deeds_in h p ts)) rest
@@ -119,11 +119,11 @@ module _ (x : Walk) (ready : IsReady x) (held : AreHeld x.seat.home) (k : ℕ) (
           let printed = moved printed_behind ∙ store_printed x.seat x.seat held below x.own (n + 1) behind_it to given_first loaded to_below ∙ own_load_printed x.seat x.seat held below x.own n store_is k few (deeds_by true small) in
           let size : length (executor_output y.executor) ≡ length (executor_output x.executor) = ap (λ z. length (executor_output z)) executor in
           let wide : executor_room y.executor ≡ executor_room x.executor = ap executor_room executor in
-          turns_go x ready held y (closes (styled_place x.turns) k ∷ []) 2 same turns (none true small) kept_left (come_on x.turns y.turns sound run begins) idle (subst CanExecute (sym executor) ready.can) (ap executor_tree executor)
+          turns_go x ready held y (closes (turns_place x.turns) k ∷ []) 2 same turns (none true small) kept_left (come_on x.turns y.turns sound run begins) idle (subst CanExecute (sym executor) ready.can) (ap executor_tree executor)
           (ap executor_output executor ∙ ready.output ∙ sym printed) (omega (arith, size)) (omega (arith, wide)) answered over legs
 
       pub kept_leads : LeadsOn x y
-      kept_leads = turns_lead x ready held y (closes (styled_place x.turns) k ∷ []) 2 (seat_gone x.seat y.seat seat).0 turns (none true small) kept_left (omega arith) begins answered
+      kept_leads = turns_lead x ready held y (closes (turns_place x.turns) k ∷ []) 2 (seat_gone x.seat y.seat seat).0 turns (none true small) kept_left (omega arith) begins answered
 
   -- ---- a sum scalar's
 
@@ -155,12 +155,12 @@ module _ (x : Walk) (ready : IsReady x) (held : AreHeld x.seat.home) (k : ℕ) (
     added : left_behind x.seat (gone x.seat) x.own (n + 1 + 1) ≡ storing from (λ given. pos 0) ∷ behind_it
     added = add_left x.seat x.seat held below x.own (n + 1) clear_is to given_first total_loaded
 
-    module _ (y : Walk) (seat : y.seat ≡ gone x.seat) (own : y.own ≡ set x.own k (pos 0)) (executor : y.executor ≡ x.executor) (answered : y.answered ≡ x.answered) (over : y.ended ≡ x.ended) (sound : AreStyled y.turns) (run : IsSameRun x.turns y.turns)
-        (begins : beginnings_left y.turns ≡ beginnings_left x.turns) (turns : styled_left x.turns ≡ closes (styled_place x.turns) k ∷ styled_left y.turns) (rest : next.0.0 ≡ styled_left y.turns) where
+    module _ (y : Walk) (seat : y.seat ≡ gone x.seat) (own : y.own ≡ set x.own k (pos 0)) (executor : y.executor ≡ x.executor) (answered : y.answered ≡ x.answered) (over : y.ended ≡ x.ended) (sound : AreSound y.turns) (run : IsSameRun x.turns y.turns)
+        (begins : beginnings_left y.turns ≡ beginnings_left x.turns) (turns : turns_left x.turns ≡ closes (turns_place x.turns) k ∷ turns_left y.turns) (rest : next.0.0 ≡ turns_left y.turns) where
       went : {Y : Type 0} (f : CellView → ℕ → Y) → f y.seat (place_of y.seat x.turns + 3) ≡ f (gone x.seat) (n + 1 + 1 + 1)
       went f = (λ i. f (seat i) (place_of (seat i) x.turns + 3)) ∙ ap (f (gone x.seat)) (omega arith)
 
-      total_left : length (left_behind x.seat y.seat y.own (place_of y.seat x.turns + 3)) ≡ length (deeds_in h p (styled_left y.turns))
+      total_left : length (left_behind x.seat y.seat y.own (place_of y.seat x.turns + 3)) ≡ length (deeds_in h p (turns_left y.turns))
       total_left =
           ap (λ (l : List Deed). length l) (ap (λ o. left_behind x.seat y.seat o (place_of y.seat x.turns + 3)) own ∙ went (λ v j. left_behind x.seat v (set x.own k (pos 0)) j)
           ∙ own_store_left x.seat (gone x.seat) held below x.own (n + 1 + 1) behind_it k few zero_of added (pos 0) refl)
@@ -174,8 +174,8 @@ module _ (x : Walk) (ready : IsReady x) (held : AreHeld x.seat.home) (k : ℕ) (
           ∙ own_load_printed x.seat x.seat held below x.own n add_is k few (deeds_by false big) in
           let size : length (executor_output y.executor) ≡ length (executor_output x.executor) = ap (λ z. length (executor_output z)) executor in
           let wide : executor_room y.executor ≡ executor_room x.executor = ap executor_room executor in
-          turns_go x ready held y (closes (styled_place x.turns) k ∷ []) 3 same turns (none false big) total_left (come_on x.turns y.turns sound run begins) idle (subst CanExecute (sym executor) ready.can) (ap executor_tree executor)
+          turns_go x ready held y (closes (turns_place x.turns) k ∷ []) 3 same turns (none false big) total_left (come_on x.turns y.turns sound run begins) idle (subst CanExecute (sym executor) ready.can) (ap executor_tree executor)
           (ap executor_output executor ∙ ready.output ∙ sym printed) (omega (arith, size)) (omega (arith, wide)) answered over legs
 
       pub total_leads : LeadsOn x y
-      total_leads = turns_lead x ready held y (closes (styled_place x.turns) k ∷ []) 3 (seat_gone x.seat y.seat seat).0 turns (none false big) total_left (omega arith) begins answered
+      total_leads = turns_lead x ready held y (closes (turns_place x.turns) k ∷ []) 3 (seat_gone x.seat y.seat seat).0 turns (none false big) total_left (omega arith) begins answered

@@ -6,7 +6,7 @@ use Rattle.std.proofs.Crossing.{crosses}
 use Rattle.atomic_table.proofs.send_lease.SendLease.TheSendSync as lease
 use Rattle.atomic_table.proofs.shared.Shared.TheSendSync as shared
 use Rattle.spmd_model.proofs.style.Style.TheSendSync as style
-use Rattle.fork_join.proofs.Crosses.{Executor-field-send, Plan-sync, Program-sync, StyledTurns-field-send}
+use Rattle.fork_join.proofs.Crosses.{Executor-field-send, Plan-sync, Program-sync, Turns-field-send}
 use Rattle.shared_words.proofs.cells.CellSeat.TheSendSync as seat
 use Rattle.shared_words.specs.contracts.cells.Cells as Cells
 use Rattle.spmd_workers.proofs.patience.Patience.TheSendSync as patience
@@ -18,7 +18,7 @@ Walk-field-send a =
     struct_send (shape (Walk.the_type a)) (
       search (sendable, crosses, seat.the_send) depth 20,
       (
-        StyledTurns-field-send a,
+        Turns-field-send a,
         (
           search (sendable, crosses) depth 20,
           (

@@ -24,17 +24,18 @@ use Rattle.sync_plan.specs.declared.plan.Plan.{Plan}
 use Rattle.own_cells.specs.OwnCells.{AreFew, AreOwnCells}
 use Rattle.spmd_model.specs.Deeds.{Deed, instance_deeds, last_deed, loading}
 use Rattle.spmd_model.specs.MachineDeeds.{own_deeds}
-use Rattle.spmd_turns.specs.Executors.{Begins, executor_output, executor_room, executor_tree}
-use Rattle.spmd_turns.specs.Rooms.{turn_room, visit_room}
-use Rattle.spmd_turns.specs.Turns.{works}
-use Rattle.spmd_turns.specs.TurnsLeft.{IsInstance, turns_tree}
-use Rattle.styled_turns.specs.StyledTurns.{StyledTurn, runs, styled_deeds, styled_room}
-use Rattle.styled_turns.specs.StyledLeft.{styled_left, styled_own, styled_place, styled_plan, styled_rounds, styled_tree}
+use Rattle.instance_runs.specs.Executors.{Begins, executor_output, executor_room, executor_tree}
+use Rattle.instance_runs.specs.Rooms.{visit_room}
+use Rattle.turns.specs.CounterTurns.{counter_room, works}
+use Rattle.turns.specs.CountersLeft.{counters_tree}
+use Rattle.instance_runs.specs.Stops.{IsInstance}
+use Rattle.turns.specs.Turns.{Turn, runs, turn_deeds, turn_room}
+use Rattle.turns.specs.TurnsLeft.{turns_left, turns_own, turns_place, turns_plan, turns_rounds, turns_tree}
 use Rattle.fork_join.proofs.Walking.{same_room}
 use Rattle.shared_words.specs.Homes.{Home}
 use Rattle.spmd_workers.specs.OwnPlaces.{AreKnown}
 use Rattle.spmd_workers.specs.Places.{deeds_in, left_behind, plan_at, tree_at}
-use Rattle.spmd_workers.specs.Walks.{IsReady, is_instance_there, is_styled_there, walk_place}
+use Rattle.spmd_workers.specs.Walks.{IsWalk, is_instance_there, is_turn_there, walk_place}
 use Rattle.spmd_workers.specs.declared.walk.Walk.{Walk}
 use Rattle.spmd_workers.proofs.ByProgram.{all_instances, instance_inside}
 use Rattle.spmd_workers.proofs.Turned.{AreNoPosts, last_no_post, loads_no_posts, no_posts_append}
@@ -46,10 +47,10 @@ pub runs_deeds : (h : Home) (p place : ℕ) (is : List Instance) → deeds_in h 
 runs_deeds h p place [] = refl
 runs_deeds h p place (i ∷ is) = ap (λ l. own_deeds (tree_at h) (own_of (tree_at h) (plan_at h) place) p i ++ l) (runs_deeds h p place is)
 
-all_there : (tree : Tree) (place : ℕ) (is : List Instance) (rest : List StyledTurn) → list_all (is_styled_there tree) (map (runs place) is ++ rest) ≡ true → list_all (is_instance_there tree) is ≡ true
+all_there : (tree : Tree) (place : ℕ) (is : List Instance) (rest : List Turn) → list_all (is_turn_there tree) (map (runs place) is ++ rest) ≡ true → list_all (is_instance_there tree) is ≡ true
 all_there tree place [] rest all = refl
 all_there tree place (i ∷ is) rest all =
-    let parts = and_parts (is_instance_there tree i) (list_all (is_styled_there tree) (map (runs place) is ++ rest)) all in
+    let parts = and_parts (is_instance_there tree i) (list_all (is_turn_there tree) (map (runs place) is ++ rest)) all in
     and_from (is_instance_there tree i) (list_all (is_instance_there tree) is) parts.0 (all_there tree place is rest parts.1)
 
 insides : (tree : Tree) (is : List Instance) → list_all (is_instance_there tree) is ≡ true → list_all (is_instance_inside tree) is ≡ true
@@ -85,38 +86,38 @@ moved_instance t u rounds others stop same loops at =
 
 -- ---- instances that come next, as a map of deeds has them that gives the program's
 
-module _ (f : Deed → Deed) (x : Walk) (ready : IsReady x) (place : ℕ)
+module _ (f : Deed → Deed) (x : Walk) (ready : IsWalk x) (place : ℕ)
     (gives : (i : Instance) → is_instance_there (tree_at x.seat.home) i ≡ true → map f (own_deeds (tree_at x.seat.home) (own_of (tree_at x.seat.home) (plan_at x.seat.home) place) x.seat.processor i) ≡ instance_deeds (tree_at x.seat.home) i) where
-  abbrev rest_seen : List StyledTurn → List Deed
+  abbrev rest_seen : List Turn → List Deed
   rest_seen rest = map f (deeds_in x.seat.home x.seat.processor rest)
 
   -- a strip
-  pub strip_here : (is : List Instance) (rest : List StyledTurn) → styled_left x.turns ≡ map (runs place) is ++ rest → map f (left_behind x.seat x.seat x.own (walk_place x)) ≡ flat_map (instance_deeds (executor_tree x.executor)) is ++ map f (deeds_in x.seat.home x.seat.processor rest)
+  pub strip_here : (is : List Instance) (rest : List Turn) → turns_left x.turns ≡ map (runs place) is ++ rest → map f (left_behind x.seat x.seat x.own (walk_place x)) ≡ flat_map (instance_deeds (executor_tree x.executor)) is ++ map f (deeds_in x.seat.home x.seat.processor rest)
   strip_here is rest next =
       let h = x.seat.home in
       let p = x.seat.processor in
-      let all = all_there (tree_at h) place is rest (ap (list_all (is_styled_there (tree_at h))) (sym next) ∙ ready.there) in
-      ap (map f) (walk_left x ready ∙ ap (deeds_in h p) next ∙ flat_map-append (styled_deeds (tree_at h) (plan_at h) p) (map (runs place) is) rest) ∙ map-append f (deeds_in h p (map (runs place) is)) (deeds_in h p rest)
+      let all = all_there (tree_at h) place is rest (ap (list_all (is_turn_there (tree_at h))) (sym next) ∙ ready.there) in
+      ap (map f) (walk_left x ready ∙ ap (deeds_in h p) next ∙ flat_map-append (turn_deeds (tree_at h) (plan_at h) p) (map (runs place) is) rest) ∙ map-append f (deeds_in h p (map (runs place) is)) (deeds_in h p rest)
       ∙ ap (λ l. map f l ++ rest_seen rest) (runs_deeds h p place is) ∙ ap (λ l. l ++ rest_seen rest) (all_instances f (tree_at h) (plan_at h) place p is gives all)
       ∙ ap (λ t. flat_map (instance_deeds t) is ++ rest_seen rest) (sym ready.executes)
 
   -- one instance
-  module _ (stop : Stop) (at : IsInstance (turns_tree x.turns.turns) (styled_rounds x.turns) stop) (rest : List StyledTurn) (next : styled_left x.turns ≡ runs place at.instance ∷ rest) where
+  module _ (stop : Stop) (at : IsInstance (counters_tree x.turns.counters) (turns_rounds x.turns) stop) (rest : List Turn) (next : turns_left x.turns ≡ runs place at.instance ∷ rest) where
     abbrev tree : Tree
     tree = executor_tree x.executor
 
-    same_tree : turns_tree x.turns.turns ≡ tree
+    same_tree : counters_tree x.turns.counters ≡ tree
     same_tree = ready.sound.same_tree ∙ ready.tree ∙ sym ready.executes
 
-    here : IsInstance tree (styled_rounds x.turns) stop
-    here = (moved_instance (turns_tree x.turns.turns) tree (styled_rounds x.turns) (styled_rounds x.turns) stop same_tree refl at).0
+    here : IsInstance tree (turns_rounds x.turns) stop
+    here = (moved_instance (counters_tree x.turns.counters) tree (turns_rounds x.turns) (turns_rounds x.turns) stop same_tree refl at).0
 
     is_there : is_instance_there (tree_at x.seat.home) at.instance ≡ true
     is_there =
-        let all : list_all (is_styled_there (tree_at x.seat.home)) (runs place at.instance ∷ rest) ≡ true = ap (list_all (is_styled_there (tree_at x.seat.home))) (sym next) ∙ ready.there in
-        (and_parts (is_instance_there (tree_at x.seat.home) at.instance) (list_all (is_styled_there (tree_at x.seat.home)) rest) all).0
+        let all : list_all (is_turn_there (tree_at x.seat.home)) (runs place at.instance ∷ rest) ≡ true = ap (list_all (is_turn_there (tree_at x.seat.home))) (sym next) ∙ ready.there in
+        (and_parts (is_instance_there (tree_at x.seat.home) at.instance) (list_all (is_turn_there (tree_at x.seat.home)) rest) all).0
 
-    pub begins_here : Begins tree (styled_rounds x.turns) stop (map f (left_behind x.seat x.seat x.own (walk_place x)))
+    pub begins_here : Begins tree (turns_rounds x.turns) stop (map f (left_behind x.seat x.seat x.own (walk_place x)))
     unfolding here moved_instance
     begins_here = record {
       at = here;
@@ -130,21 +131,21 @@ module _ (f : Deed → Deed) (x : Walk) (ready : IsReady x) (place : ℕ)
     unfolding begins_here
     rest_here = refl
 
-    pub room_here : visit_room tree (visit_at tree (styled_rounds x.turns) stop) ≡ turn_room (tree_at x.seat.home) (works at.instance)
+    pub room_here : visit_room tree (visit_at tree (turns_rounds x.turns) stop) ≡ counter_room (tree_at x.seat.home) (works at.instance)
     unfolding here moved_instance
-    room_here = same_room tree (styled_rounds x.turns) stop here ∙ ap (λ t. turn_room t (works at.instance)) ready.executes
+    room_here = same_room tree (turns_rounds x.turns) stop here ∙ ap (λ t. counter_room t (works at.instance)) ready.executes
 
-    pub fits_here : length (executor_output x.executor) + visit_room tree (visit_at tree (styled_rounds x.turns) stop) ≤ executor_room x.executor
+    pub fits_here : length (executor_output x.executor) + visit_room tree (visit_at tree (turns_rounds x.turns) stop) ≤ executor_room x.executor
     fits_here =
-        let room = styled_room (tree_at x.seat.home) in
-        let all : sum_by room (styled_left x.turns) ≡ turn_room (tree_at x.seat.home) (works at.instance) + sum_by room rest = ap (sum_by room) next ∙ sum_by-cons room (runs place at.instance) rest in
+        let room = turn_room (tree_at x.seat.home) in
+        let all : sum_by room (turns_left x.turns) ≡ counter_room (tree_at x.seat.home) (works at.instance) + sum_by room rest = ap (sum_by room) next ∙ sum_by-cons room (runs place at.instance) rest in
         let most = ready.room in
         let one = room_here in
         omega (arith, all, most, one)
 
-pub inside_here : (x : Walk) (ready : IsReady x) (place : ℕ) (is : List Instance) (rest : List StyledTurn) → styled_left x.turns ≡ map (runs place) is ++ rest → list_all (is_instance_inside (executor_tree x.executor)) is ≡ true
+pub inside_here : (x : Walk) (ready : IsWalk x) (place : ℕ) (is : List Instance) (rest : List Turn) → turns_left x.turns ≡ map (runs place) is ++ rest → list_all (is_instance_inside (executor_tree x.executor)) is ≡ true
 inside_here x ready place is rest next =
-    ap (λ t. list_all (is_instance_inside t) is) ready.executes ∙ insides (tree_at x.seat.home) is (all_there (tree_at x.seat.home) place is rest (ap (list_all (is_styled_there (tree_at x.seat.home))) (sym next) ∙ ready.there))
+    ap (λ t. list_all (is_instance_inside t) is) ready.executes ∙ insides (tree_at x.seat.home) is (all_there (tree_at x.seat.home) place is rest (ap (list_all (is_turn_there (tree_at x.seat.home))) (sym next) ∙ ready.there))
 
 -- ---- behind instances
 
@@ -156,13 +157,13 @@ pub same_count : (f : Deed → Deed) (xs ys : List Deed) → map f xs ≡ map f 
 same_count f xs ys same = sym (length-map xs f) ∙ ap (λ (l : List Deed). length l) same ∙ length-map ys f
 
 -- the own scalars of the phase are known
-pub own_known : (x : Walk) → IsReady x → AreKnown x.seat.home x.turns (styled_own x.turns)
+pub own_known : (x : Walk) → IsWalk x → AreKnown x.seat.home x.turns (turns_own x.turns)
 own_known x ready =
-    let both : (styled_tree x.turns, styled_plan x.turns) ≡ (tree_at x.seat.home, plan_at x.seat.home) = λ i. (ready.tree i, ready.plan i) in
+    let both : (turns_tree x.turns, turns_plan x.turns) ≡ (tree_at x.seat.home, plan_at x.seat.home) = λ i. (ready.tree i, ready.plan i) in
     record {
-      few = subst (λ (k : Tree × Plan). AreFew k.0 (own_loop k.0 k.1 (styled_place x.turns))) both ready.sound.own.few;
-      cells = subst (λ (k : Tree × Plan). AreOwnCells k.0 (own_loop k.0 k.1 (styled_place x.turns)) (styled_own x.turns)) both ready.sound.own.cells;
+      few = subst (λ (k : Tree × Plan). AreFew k.0 (own_loop k.0 k.1 (turns_place x.turns))) both ready.sound.own.few;
+      cells = subst (λ (k : Tree × Plan). AreOwnCells k.0 (own_loop k.0 k.1 (turns_place x.turns)) (turns_own x.turns)) both ready.sound.own.cells;
     }
 
-pub same_tail : {t u : StyledTurn} {ts us left : List StyledTurn} → left ≡ t ∷ ts → left ≡ u ∷ us → ts ≡ us
+pub same_tail : {t u : Turn} {ts us left : List Turn} → left ≡ t ∷ ts → left ≡ u ∷ us → ts ≡ us
 same_tail {t} {u} {ts} {us} {left} a b = let both : t ∷ ts ≡ u ∷ us = sym a ∙ b in cc

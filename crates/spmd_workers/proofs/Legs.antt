@@ -6,12 +6,12 @@ use Rattle.nest_tree.specs.Layout.{cell_count}
 use Rattle.sync_plan.specs.Boundaries.{joins}
 use Rattle.spmd_model.specs.Timelines.{counter, post}
 use Rattle.spmd_model.specs.Protocols.{act_at, passed_first}
-use Rattle.spmd_turns.specs.Executors.{executor_output, executor_room}
-use Rattle.styled_turns.specs.StyledTurns.{StyledTurn, styled_room}
-use Rattle.styled_turns.specs.StyledLeft.{IsNextOrPhase, beginnings_left, styled_left}
-use Rattle.styled_turns.specs.declared.turns.NextOrPhase.{NextOrPhase}
-use Rattle.styled_turns.specs.declared.turns.NextOrPhase.TheVariants as Coming
-use Rattle.styled_turns.specs.declared.turns.StyledTurns.{StyledTurns}
+use Rattle.instance_runs.specs.Executors.{executor_output, executor_room}
+use Rattle.turns.specs.Turns.{Turn, turn_room}
+use Rattle.turns.specs.TurnsLeft.{IsNextOrPhase, beginnings_left, turns_left}
+use Rattle.turns.specs.declared.turns.NextOrPhase.{NextOrPhase}
+use Rattle.turns.specs.declared.turns.NextOrPhase.TheVariants as Coming
+use Rattle.turns.specs.declared.turns.Turns.{Turns}
 use Rattle.shared_words.specs.Places.{settled_at}
 use Rattle.shared_words.proofs.Vain.{within}
 use Rattle.shared_words.specs.Calls.{StandsInVain}
@@ -19,7 +19,7 @@ use Rattle.shared_words.specs.Homes.{CellView, Home, Subject, protocol_at, seat_
 use Rattle.spmd_workers.specs.Held.{AreHeld}
 use Rattle.spmd_workers.specs.Legs.{IsFurther, IsJoined, IsSameSeat, IsWaiting, answered_last}
 use Rattle.spmd_workers.specs.Places.{deeds_at, deeds_in, held_cells, place_of, plan_at, printed_behind, tree_at}
-use Rattle.spmd_workers.specs.Walks.{Answers, EndsLeg, GoesTo, IsAtEnd, IsReady, LeadsOn, TurnTells, is_styled_there, to_go, walk_place}
+use Rattle.spmd_workers.specs.Walks.{Answers, EndsLeg, GoesTo, IsAtEnd, IsWalk, LeadsOn, TurnTells, is_turn_there, to_go, walk_place}
 use Rattle.spmd_workers.specs.Workers.{IsInside, IsOver}
 use Rattle.spmd_workers.specs.declared.patience.Patience.{Patience}
 use Rattle.spmd_workers.specs.declared.walk.Walk.{Walk}
@@ -94,11 +94,11 @@ goes_more a b c same le legs goes = record {
 
 -- ---- a look at what comes next
 
-module _ (x : Walk) (ready : IsReady x) (d : StyledTurns) (come : HasCome x.turns d) (left : styled_left d ≡ styled_left x.turns) where
+module _ (x : Walk) (ready : IsWalk x) (d : Turns) (come : HasCome x.turns d) (left : turns_left d ≡ turns_left x.turns) where
   place : place_of x.seat d ≡ walk_place x
   place = ap (λ l. length (deeds_at x.seat.home x.seat.processor) - length (deeds_in x.seat.home x.seat.processor l)) left
 
-  looked : (ended : Bool) (patience : Patience) → (ended ≡ true → IsAtEnd (record x { turns = d; patience = patience; ended = ended })) → IsReady (record x { turns = d; patience = patience; ended = ended })
+  looked : (ended : Bool) (patience : Patience) → (ended ≡ true → IsAtEnd (record x { turns = d; patience = patience; ended = ended })) → IsWalk (record x { turns = d; patience = patience; ended = ended })
   looked ended patience over = record {
     front = ready.front;
     behind = ready.behind ∙ ap (λ l. ready.front ++ l) (sym left);
@@ -115,8 +115,8 @@ module _ (x : Walk) (ready : IsReady x) (d : StyledTurns) (come : HasCome x.turn
     can = ready.can;
     executes = ready.executes;
     output = ready.output ∙ sym (ap ((protocol_at x.seat.home).printed_at x.seat.processor) place);
-    room = subst (λ (l : List StyledTurn). length (executor_output x.executor) + sum_by (styled_room (tree_at x.seat.home)) l ≤ executor_room x.executor) (sym left) ready.room;
-    there = subst (λ (l : List StyledTurn). IsTrue (list_all (is_styled_there (tree_at x.seat.home)) l)) (sym left) ready.there;
+    room = subst (λ (l : List Turn). length (executor_output x.executor) + sum_by (turn_room (tree_at x.seat.home)) l ≤ executor_room x.executor) (sym left) ready.room;
+    there = subst (λ (l : List Turn). IsTrue (list_all (is_turn_there (tree_at x.seat.home)) l)) (sym left) ready.there;
     answered = ready.answered;
     over = over;
   }
@@ -125,22 +125,22 @@ module _ (x : Walk) (ready : IsReady x) (d : StyledTurns) (come : HasCome x.turn
   pub still_over : x.ended ≡ true → IsAtEnd (record x { turns = d })
   still_over e = let was = ready.over e in record { none = left ∙ was.none; seat = was.seat; placed = place ∙ was.placed }
 
-  pub looked_ready : IsReady (record x { turns = d })
+  pub looked_ready : IsWalk (record x { turns = d })
   looked_ready = looked x.ended x.patience still_over
 
 -- it is as ready for its next leg
-pub ready_again : (x : Walk) (patience : Patience) → IsReady x → IsReady (record x { patience = patience })
+pub ready_again : (x : Walk) (patience : Patience) → IsWalk x → IsWalk (record x { patience = patience })
 ready_again x patience ready =
     looked x ready x.turns (record { sound = ready.sound; same = record { program = refl; plan = refl; processor = refl; style = refl }; begun = []; begins = refl }) refl x.ended patience
     (λ e. let was = ready.over e in record { none = was.none; seat = was.seat; placed = was.placed })
 
 -- where a phase begins or what comes next is seen
-pub come_by : (old new : StyledTurns) (n : NextOrPhase) → IsNextOrPhase old new n → (begun : List ℕ) × (beginnings_left old ≡ begun ++ beginnings_left new)
+pub come_by : (old new : Turns) (n : NextOrPhase) → IsNextOrPhase old new n → (begun : List ℕ) × (beginnings_left old ≡ begun ++ beginnings_left new)
 come_by old new (Coming.Phase e) is = (e ∷ [], is)
 come_by old new (Coming.Turn next) is = ([], sym is.1)
 
 -- all is done where nothing is left
-module _ (x : Walk) (ready : IsReady x) (held : AreHeld x.seat.home) (none : styled_left x.turns ≡ []) where
+module _ (x : Walk) (ready : IsWalk x) (held : AreHeld x.seat.home) (none : turns_left x.turns ≡ []) where
   all_deeds_done : walk_place x ≡ length (deeds_at x.seat.home x.seat.processor)
   all_deeds_done = ap (λ l. length (deeds_at x.seat.home x.seat.processor) - length (deeds_in x.seat.home x.seat.processor l)) none ∙ (let e : length (deeds_at x.seat.home x.seat.processor) - 0 ≡ length (deeds_at x.seat.home x.seat.processor) = omega arith in e)
 
@@ -162,23 +162,23 @@ module _ (x : Walk) (ready : IsReady x) (held : AreHeld x.seat.home) (none : sty
   pub at_end : IsAtEnd (record x { ended = true })
   at_end = record { none = none; seat = sym ended_placed ∙ all_deeds_done ∙ held.count x.seat.processor (its_worker x ready); placed = ended_placed }
 
-  pub ended_ready : IsReady (record x { ended = true })
+  pub ended_ready : IsWalk (record x { ended = true })
   ended_ready = looked x ready x.turns (record { sound = ready.sound; same = record { program = refl; plan = refl; processor = refl; style = refl }; begun = []; begins = refl }) refl true x.patience (λ _. at_end)
 
 -- ---- behind a leg
 
 -- who has ended has printed all lines
-pub is_over : (x : Walk) → IsReady x → x.ended ≡ true → IsOver (record { seat = x.seat; answered = x.answered; legs = x.patience.legs; output = executor_output x.executor; ended = x.ended })
+pub is_over : (x : Walk) → IsWalk x → x.ended ≡ true → IsOver (record { seat = x.seat; answered = x.answered; legs = x.patience.legs; output = executor_output x.executor; ended = x.ended })
 is_over x ready e = record { ended = (ready.over e).seat; printed = ready.output ∙ ap (printed_behind x.seat) (ready.over e).placed }
 
 -- its seat is inside its acts
-pub ready_inside : (x : Walk) → IsReady x → AreHeld x.seat.home → IsInside x.seat
+pub ready_inside : (x : Walk) → IsWalk x → AreHeld x.seat.home → IsInside x.seat
 ready_inside x ready held =
     let count = held.count x.seat.processor (its_worker x ready) in
     subst (λ n. n ≤ length ((protocol_at x.seat.home).acts x.seat.processor)) ready.settled (within (protocol_at x.seat.home) x.seat.processor (walk_place x) (omega (arith, count)))
 
 -- a leg that stays where it was has ended, or stands in vain: behind a join a place is another
-pub stays_where : (x y : Walk) (leg : Leg) → IsReady x → GoesTo x y → EndsLeg x y leg → y.seat.position ≡ x.seat.position → (y.ended ≡ true) ⊎ StandsInVain x.seat
+pub stays_where : (x y : Walk) (leg : Leg) → IsWalk x → GoesTo x y → EndsLeg x y leg → y.seat.position ≡ x.seat.position → (y.ended ≡ true) ⊎ StandsInVain x.seat
 stays_where x y leg ready goes ends here = by leg ends.answers
   where
     by : (l : Leg) → Answers x y l → (y.ended ≡ true) ⊎ StandsInVain x.seat
@@ -197,11 +197,11 @@ stays_where x y leg ready goes ends here = by leg ends.answers
 
 -- ---- in another home of its table
 
-pub noted_ready : (x : Walk) (h : Home) → h.given ≡ x.seat.home.given → IsReady x → IsReady (record x { seat = seat_in h x.seat })
+pub noted_ready : (x : Walk) (h : Home) → h.given ≡ x.seat.home.given → IsWalk x → IsWalk (record x { seat = seat_in h x.seat })
 unfolding deeds_at
 noted_ready x h same ready =
-    let s : IsReady (record x { seat = seat_in (record { table = x.seat.home.table; given = h.given; known = x.seat.home.known }) x.seat }) =
-    subst (λ (g : Option Subject). IsReady (record x { seat = seat_in (record { table = x.seat.home.table; given = g; known = x.seat.home.known }) x.seat })) (sym same) ready in record {
+    let s : IsWalk (record x { seat = seat_in (record { table = x.seat.home.table; given = h.given; known = x.seat.home.known }) x.seat }) =
+    subst (λ (g : Option Subject). IsWalk (record x { seat = seat_in (record { table = x.seat.home.table; given = g; known = x.seat.home.known }) x.seat })) (sym same) ready in record {
       front = s.front;
       behind = s.behind;
       begun = s.begun;

@@ -17,9 +17,9 @@ use Rattle.spmd_model.specs.Timelines.{Act, add, await, counter, load, post, pri
 use Rattle.spmd_model.proofs.Lists.{take-more}
 use Rattle.spmd_model.specs.Protocols.{act_at, arrivals_at, arrived, is_gathered}
 use Rattle.spmd_model.specs.Viewed.{barriers_in_front}
-use Rattle.spmd_turns.specs.Turns.{Turn, awaits, begins, boundary_turns, phase_turns, turns_from, works}
-use Rattle.spmd_turns.proofs.TurnLists.{drop_at}
-use Rattle.spmd_turns.proofs.LoadPlaces.{drop_there}
+use Rattle.turns.specs.CounterTurns.{CounterTurn, awaits, begins, boundary_turns, phase_turns, counter_turns, works}
+use Rattle.turns.proofs.CounterLists.{drop_at}
+use Rattle.instance_runs.proofs.LoadPlaces.{drop_there}
 use Rattle.shared_words.specs.Places.{row_first}
 use Rattle.shared_words.specs.Homes.{Home, protocol_at}
 use Rattle.spmd_workers.specs.Held.{AreHeld}
@@ -30,15 +30,15 @@ use Rattle.spmd_workers.proofs.OwnHeld.{await_keeps}
 -- ---- turns behind the beginning of a phase
 
 -- all awaits among turns are of this number or more
-abbrev pub Later : ℕ → List Turn → Type 0
+abbrev pub Later : ℕ → List CounterTurn → Type 0
 Later b ts = (k on w : ℕ) → slice_get ts k ≡ Some (awaits on w) → b ≤ w
 
-pub later_append : (b : ℕ) (xs ys : List Turn) → Later b xs → Later b ys → Later b (xs ++ ys)
+pub later_append : (b : ℕ) (xs ys : List CounterTurn) → Later b xs → Later b ys → Later b (xs ++ ys)
 later_append b [] ys first second k on w e = second k on w e
 later_append b (x ∷ xs) ys first second zero on w e = first 0 on w e
 later_append b (x ∷ xs) ys first second (suc k) on w e = later_append b xs ys (λ j o v is. first (suc j) o v is) second k on w e
 
-later_less : (a b : ℕ) (ts : List Turn) → a ≤ b → Later b ts → Later a ts
+later_less : (a b : ℕ) (ts : List CounterTurn) → a ≤ b → Later b ts → Later a ts
 later_less a b ts le later k on w e = let high = later k on w e in omega (arith, le, high)
 
 pub later_works : (b : ℕ) (is : List Instance) → Later b (map works is)
@@ -57,7 +57,7 @@ later_boundary n true qs (suc k) on w e = later_awaits n qs k on w e
 later_boundary n false qs k on w e = later_awaits n qs k on w e
 
 -- turns among which no phase begins
-pub NoBeginning : List Turn → Type 0
+pub NoBeginning : List CounterTurn → Type 0
 NoBeginning ts = (k b : ℕ) → slice_get ts k ≡ Some (begins b) → ⊥
 
 pub none_works : (is : List Instance) → NoBeginning (map works is)
@@ -78,7 +78,7 @@ none_boundary n true qs zero b e = absurd (cc)
 none_boundary n true qs (suc k) b e = none_awaits n qs k b e
 none_boundary n false qs k b e = none_awaits n qs k b e
 
-pub past : (xs ys front rest : List Turn) (b : ℕ) → NoBeginning xs → xs ++ ys ≡ front ++ (begins b ∷ rest) → (more : List Turn) × (ys ≡ more ++ (begins b ∷ rest))
+pub past : (xs ys front rest : List CounterTurn) (b : ℕ) → NoBeginning xs → xs ++ ys ≡ front ++ (begins b ∷ rest) → (more : List CounterTurn) × (ys ≡ more ++ (begins b ∷ rest))
 unfolding NoBeginning
 past [] ys front rest b none is = (front, is)
 past (x ∷ xs) ys [] rest b none is = let both : x ∷ (xs ++ ys) ≡ begins b ∷ rest = is in let first : x ≡ begins b = cc in absurd (none 0 b (ap (λ t. Some t) first))
@@ -88,45 +88,45 @@ module _ (tree : Tree) (plan : Plan) (p : ℕ) where
   own : Visit → List Instance
   own v = owned_by tree (slice_get plan.anchors (v.place - 1)) plan.workers p v
 
-  pub phases_later : (e : ℕ) (vs : List Visit) → 1 ≤ e → Later (e - 1) (turns_from tree plan p e vs)
+  pub phases_later : (e : ℕ) (vs : List Visit) → 1 ≤ e → Later (e - 1) (counter_turns tree plan p e vs)
   unfolding own
   phases_later e [] some = λ k on w is. absurd (cc)
   phases_later e (v ∷ vs) some =
       let boundary = boundary_turns (e - 1) (posts_at tree plan p v.place v.loops) (waits_for tree plan p v.place v.loops) in
       let begun : Later (e - 1) (begins e ∷ map works (own v)) = beginning (map works (own v)) (later_works (e - 1) (own v)) in
       let phase = later_append (e - 1) boundary (begins e ∷ map works (own v)) (later_boundary (e - 1) (posts_at tree plan p v.place v.loops) (waits_for tree plan p v.place v.loops)) begun in
-      let rest = later_less (e - 1) (suc e - 1) (turns_from tree plan p (suc e) vs) (omega arith) (phases_later (suc e) vs (omega arith)) in
-      later_append (e - 1) (phase_turns tree plan p e v) (turns_from tree plan p (suc e) vs) phase rest
+      let rest = later_less (e - 1) (suc e - 1) (counter_turns tree plan p (suc e) vs) (omega arith) (phases_later (suc e) vs (omega arith)) in
+      later_append (e - 1) (phase_turns tree plan p e v) (counter_turns tree plan p (suc e) vs) phase rest
     where
-      beginning : (ts : List Turn) → Later (e - 1) ts → Later (e - 1) (begins e ∷ ts)
+      beginning : (ts : List CounterTurn) → Later (e - 1) ts → Later (e - 1) (begins e ∷ ts)
       beginning ts later zero on w is = absurd (cc)
       beginning ts later (suc k) on w is = later k on w is
 
   -- behind the beginning of a phase
-  pub behind_beginning : (e : ℕ) (vs : List Visit) (front rest : List Turn) (b : ℕ) → 1 ≤ e → turns_from tree plan p e vs ≡ front ++ (begins b ∷ rest) → Later b rest
+  pub behind_beginning : (e : ℕ) (vs : List Visit) (front rest : List CounterTurn) (b : ℕ) → 1 ≤ e → counter_turns tree plan p e vs ≡ front ++ (begins b ∷ rest) → Later b rest
   unfolding own
   behind_beginning e [] [] rest b some is = absurd (let clash : [] ≡ begins b ∷ rest = is in cc)
   behind_beginning e [] (f ∷ front) rest b some is = absurd (let clash : [] ≡ f ∷ (front ++ (begins b ∷ rest)) = is in cc)
   behind_beginning e (v ∷ vs) front rest b some is =
       let boundary = boundary_turns (e - 1) (posts_at tree plan p v.place v.loops) (waits_for tree plan p v.place v.loops) in
-      let more = turns_from tree plan p (suc e) vs in
+      let more = counter_turns tree plan p (suc e) vs in
       let split : boundary ++ (begins e ∷ (map works (own v) ++ more)) ≡ front ++ (begins b ∷ rest) = sym (append_assoc boundary (begins e ∷ map works (own v)) more) ∙ is in
       let here = past boundary (begins e ∷ (map works (own v) ++ more)) front rest b (none_boundary (e - 1) (posts_at tree plan p v.place v.loops) (waits_for tree plan p v.place v.loops)) split in
       from (λ ahead same. behind_beginning (suc e) vs ahead rest b (omega arith) same) here.0 here.1
     where
-      later_there : Later e (map works (own v) ++ turns_from tree plan p (suc e) vs)
-      later_there = later_append e (map works (own v)) (turns_from tree plan p (suc e) vs) (later_works e (own v)) (later_less e (suc e - 1) (turns_from tree plan p (suc e) vs) (omega arith) (phases_later (suc e) vs (omega arith)))
+      later_there : Later e (map works (own v) ++ counter_turns tree plan p (suc e) vs)
+      later_there = later_append e (map works (own v)) (counter_turns tree plan p (suc e) vs) (later_works e (own v)) (later_less e (suc e - 1) (counter_turns tree plan p (suc e) vs) (omega arith) (phases_later (suc e) vs (omega arith)))
 
-      from : ((ahead : List Turn) → turns_from tree plan p (suc e) vs ≡ ahead ++ (begins b ∷ rest) → Later b rest) → (ahead : List Turn) → begins e ∷ (map works (own v) ++ turns_from tree plan p (suc e) vs) ≡ ahead ++ (begins b ∷ rest) → Later b rest
+      from : ((ahead : List CounterTurn) → counter_turns tree plan p (suc e) vs ≡ ahead ++ (begins b ∷ rest) → Later b rest) → (ahead : List CounterTurn) → begins e ∷ (map works (own v) ++ counter_turns tree plan p (suc e) vs) ≡ ahead ++ (begins b ∷ rest) → Later b rest
       from again [] same =
-          let both : begins e ∷ (map works (own v) ++ turns_from tree plan p (suc e) vs) ≡ begins b ∷ rest = same in
+          let both : begins e ∷ (map works (own v) ++ counter_turns tree plan p (suc e) vs) ≡ begins b ∷ rest = same in
           let number : e ≡ b = cc in
-          let behind : map works (own v) ++ turns_from tree plan p (suc e) vs ≡ rest = cc in
+          let behind : map works (own v) ++ counter_turns tree plan p (suc e) vs ≡ rest = cc in
           subst (λ n. Later n rest) number (subst (Later e) behind later_there)
       from again (f ∷ ahead) same =
-          let both : begins e ∷ (map works (own v) ++ turns_from tree plan p (suc e) vs) ≡ f ∷ (ahead ++ (begins b ∷ rest)) = same in
-          let behind : map works (own v) ++ turns_from tree plan p (suc e) vs ≡ ahead ++ (begins b ∷ rest) = cc in
-          let next = past (map works (own v)) (turns_from tree plan p (suc e) vs) ahead rest b (none_works (own v)) behind in
+          let both : begins e ∷ (map works (own v) ++ counter_turns tree plan p (suc e) vs) ≡ f ∷ (ahead ++ (begins b ∷ rest)) = same in
+          let behind : map works (own v) ++ counter_turns tree plan p (suc e) vs ≡ ahead ++ (begins b ∷ rest) = cc in
+          let next = past (map works (own v)) (counter_turns tree plan p (suc e) vs) ahead rest b (none_works (own v)) behind in
           again next.0 next.1
 
 -- ---- how many barriers are in front

@@ -10,8 +10,8 @@ use Rattle.nest_tree.specs.Layout.{cell_count}
 use Rattle.spmd_model.specs.Deeds.{Deed, adding, loading, posting, storing, printing}
 use Rattle.spmd_model.specs.Timelines.{add, load, signal, store, print}
 use Rattle.spmd_model.specs.Protocols.{act_at}
-use Rattle.spmd_turns.proofs.TurnLists.{drop_at}
-use Rattle.styled_turns.specs.declared.turns.StyledTurns.{StyledTurns}
+use Rattle.turns.proofs.CounterLists.{drop_at}
+use Rattle.turns.specs.declared.turns.Turns.{Turns}
 use Rattle.shared_words.specs.Places.{settled_at}
 use Rattle.shared_words.specs.Calls.{AddsNext, LoadsNext, StoresNext}
 use Rattle.shared_words.specs.Homes.{CellView, gone, loaded_next, protocol_at, stored_next}
@@ -84,10 +84,10 @@ module _ (from v : CellView) (own : List ℤ) (n : ℕ) where
   ]
 
 -- behind one deed more
-pub further_on : {Y : Type 0} (f : CellView → ℕ → Y) (v new : CellView) (t : StyledTurns) (k more : ℕ) → new ≡ gone v → more ≡ k + 1 → f new (place_of new t + more) ≡ f (gone v) (place_of v t + k + 1)
+pub further_on : {Y : Type 0} (f : CellView → ℕ → Y) (v new : CellView) (t : Turns) (k more : ℕ) → new ≡ gone v → more ≡ k + 1 → f new (place_of new t + more) ≡ f (gone v) (place_of v t + k + 1)
 further_on f v new t k more goes one = (λ i. f (goes i) (place_of (goes i) t + one i)) ∙ ap (f (gone v)) (omega arith)
 
-pub stays_on : {Y : Type 0} (f : CellView → ℕ → Y) (v : CellView) (t : StyledTurns) (k more : ℕ) → more ≡ k + 1 → f v (place_of v t + more) ≡ f v (place_of v t + k + 1)
+pub stays_on : {Y : Type 0} (f : CellView → ℕ → Y) (v : CellView) (t : Turns) (k more : ℕ) → more ≡ k + 1 → f v (place_of v t + more) ≡ f v (place_of v t + k + 1)
 stays_on f v t k more one = ap (λ j. f v (place_of v t + j)) one ∙ ap (f v) (omega arith)
 
 -- ---- the deed that stands first

@@ -12,19 +12,19 @@ use Rattle.spmd_model.specs.Deeds.{awaiting, posting}
 use Rattle.spmd_model.specs.Timelines.{Act, Word, await, counter, post, signal}
 use Rattle.spmd_model.specs.Protocols.{act_at, is_passed, passed_first, settled}
 use Rattle.spmd_model.proofs.ProtocolLists.{get_drop}
-use Rattle.spmd_turns.specs.Executors.{CanExecute, executor_output, executor_room, executor_tree}
-use Rattle.spmd_turns.specs.Turns.{boundary_at, boundary_of}
-use Rattle.spmd_turns.specs.declared.turns.Boundary.{Boundary}
-use Rattle.spmd_turns.specs.declared.turns.Boundary.TheVariants.{Counters, Barrier, Join}
-use Rattle.styled_turns.specs.StyledTurns.{StyledTurn, sets, waits}
-use Rattle.styled_turns.specs.StyledLeft.{AreStyled, IsSameRun, beginnings_left, styled_left, styled_plan, styled_tree}
-use Rattle.styled_turns.specs.declared.turns.StyledTurns.{StyledTurns}
+use Rattle.instance_runs.specs.Executors.{CanExecute, executor_output, executor_room, executor_tree}
+use Rattle.turns.specs.CounterTurns.{boundary_at, boundary_by}
+use Rattle.turns.specs.declared.counters.Boundary.{Boundary}
+use Rattle.turns.specs.declared.counters.Boundary.TheVariants.{Counters, Barrier, Join}
+use Rattle.turns.specs.Turns.{Turn, sets, waits}
+use Rattle.turns.specs.TurnsLeft.{AreSound, IsSameRun, beginnings_left, turns_left, turns_plan, turns_tree}
+use Rattle.turns.specs.declared.turns.Turns.{Turns}
 use Rattle.shared_words.specs.Places.{settled_at}
 use Rattle.shared_words.specs.Homes.{CellView, Home, gone, next_act, protocol_at}
 use Rattle.spmd_workers.specs.Held.{AreHeld}
 use Rattle.spmd_workers.specs.Legs.{AreAnswered, IsFurther, IsSameSeat}
 use Rattle.spmd_workers.specs.Places.{deeds_in, held_cells, plan_at, printed_behind, registers_behind, tree_at}
-use Rattle.spmd_workers.specs.Walks.{IsReady, LeadsOn, walk_place}
+use Rattle.spmd_workers.specs.Walks.{IsWalk, LeadsOn, walk_place}
 use Rattle.spmd_workers.specs.declared.walk.Walk.{Walk}
 use Rattle.spmd_workers.proofs.Acts.{await_stands, await_there, post_stands, post_there}
 use Rattle.spmd_workers.proofs.OwnHeld.{await_keeps, post_keeps}
@@ -32,7 +32,7 @@ use Rattle.spmd_workers.proofs.Walks.{HasCome, Passes, at_deed, its_worker}
 
 -- ---- how a boundary is passed
 
-pub counters_are : (k : Option Kind) (w : ℕ) → boundary_of k w ≡ Counters → (is_join k ≡ false) × ((is_barrier k && nat_lt 1 w) ≡ false)
+pub counters_are : (k : Option Kind) (w : ℕ) → boundary_by k w ≡ Counters → (is_join k ≡ false) × ((is_barrier k && nat_lt 1 w) ≡ false)
 counters_are k w is = elim (cases_Bool (is_join k)) [
   | inl join ↦ (let clash : Join ≡ Counters = sym (ap (λ b. if b then Join else (if is_barrier k && nat_lt 1 w then Barrier else Counters)) join) ∙ is in absurd (cc))
   | inr none ↦ elim (cases_Bool (is_barrier k && nat_lt 1 w)) [
@@ -41,7 +41,7 @@ counters_are k w is = elim (cases_Bool (is_join k)) [
   ]
 ]
 
-pub barrier_is : (k : Option Kind) (w : ℕ) → boundary_of k w ≡ Barrier → (is_join k ≡ false) × ((is_barrier k && nat_lt 1 w) ≡ true)
+pub barrier_is : (k : Option Kind) (w : ℕ) → boundary_by k w ≡ Barrier → (is_join k ≡ false) × ((is_barrier k && nat_lt 1 w) ≡ true)
 barrier_is k w is = elim (cases_Bool (is_join k)) [
   | inl join ↦ (let clash : Join ≡ Barrier = sym (ap (λ b. if b then Join else (if is_barrier k && nat_lt 1 w then Barrier else Counters)) join) ∙ is in absurd (cc))
   | inr none ↦ elim (cases_Bool (is_barrier k && nat_lt 1 w)) [
@@ -60,7 +60,7 @@ join_no_barrier (Some Both) h = refl
 join_no_barrier (Some kinds.Barrier) h = absurd (true≢false (sym h))
 join_no_barrier (Some kinds.Join) h = refl
 
-pub join_is : (k : Option Kind) (w : ℕ) → boundary_of k w ≡ Join → (is_join k ≡ true) × ((is_barrier k && nat_lt 1 w) ≡ false)
+pub join_is : (k : Option Kind) (w : ℕ) → boundary_by k w ≡ Join → (is_join k ≡ true) × ((is_barrier k && nat_lt 1 w) ≡ false)
 join_is k w is = elim (cases_Bool (is_join k)) [
   | inl join ↦ (join, ap (λ b. b && nat_lt 1 w) (join_no_barrier k join))
   | inr none ↦ elim (cases_Bool (is_barrier k && nat_lt 1 w)) [
@@ -70,7 +70,7 @@ join_is k w is = elim (cases_Bool (is_join k)) [
 ]
 
 -- where it isn't a barrier, nothing is gathered
-pub no_barrier_is : (k : Option Kind) (w : ℕ) → (boundary_of k w ≡ Barrier → ⊥) → (is_barrier k && nat_lt 1 w) ≡ false
+pub no_barrier_is : (k : Option Kind) (w : ℕ) → (boundary_by k w ≡ Barrier → ⊥) → (is_barrier k && nat_lt 1 w) ≡ false
 no_barrier_is k w not_so = elim (cases_Bool (is_join k)) [
   | inl join ↦ ap (λ b. b && nat_lt 1 w) (join_no_barrier k join)
   | inr none ↦ elim (cases_Bool (is_barrier k && nat_lt 1 w)) [
@@ -118,10 +118,10 @@ gone_further v = inr (omega arith, refl)
 -- ---- one turn
 
 -- a cursor has passed turns, and no phase has begun
-pub come_on : (c d : StyledTurns) → AreStyled d → IsSameRun c d → beginnings_left d ≡ beginnings_left c → HasCome c d
+pub come_on : (c d : Turns) → AreSound d → IsSameRun c d → beginnings_left d ≡ beginnings_left c → HasCome c d
 come_on c d sound same begins = record { sound = sound; same = same; begun = []; begins = sym begins }
 
-module _ (x : Walk) (ready : IsReady x) where
+module _ (x : Walk) (ready : IsWalk x) where
   abbrev h : Home
   h = x.seat.home
 
@@ -129,46 +129,46 @@ module _ (x : Walk) (ready : IsReady x) where
   p = x.seat.processor
 
   -- the boundary at hand is the plan's
-  boundary_here : (number : ℕ) (b : Boundary) → boundary_at (styled_tree x.turns) (styled_plan x.turns) number ≡ b → boundary_at (tree_at h) (plan_at h) number ≡ b
+  boundary_here : (number : ℕ) (b : Boundary) → boundary_at (turns_tree x.turns) (turns_plan x.turns) number ≡ b → boundary_at (tree_at h) (plan_at h) number ≡ b
   boundary_here number b is = sym (λ i. boundary_at (ready.tree i) (ready.plan i) number) ∙ is
 
   abbrev kind_here : ℕ → Option Kind
   kind_here number = kind_before (plan_at h) (slice_get (phases (tree_at h) (plan_at h).cut.marks) number)
 
-  pub counters_here : (number : ℕ) → boundary_at (styled_tree x.turns) (styled_plan x.turns) number ≡ Counters → (joins (tree_at h) (plan_at h) number ≡ false) × ((protocol_at h).gathers number ≡ false)
+  pub counters_here : (number : ℕ) → boundary_at (turns_tree x.turns) (turns_plan x.turns) number ≡ Counters → (joins (tree_at h) (plan_at h) number ≡ false) × ((protocol_at h).gathers number ≡ false)
   counters_here number b = counters_are (kind_here number) (plan_at h).workers (boundary_here number Counters b)
 
-  pub barrier_here : (number : ℕ) → boundary_at (styled_tree x.turns) (styled_plan x.turns) number ≡ Barrier → (joins (tree_at h) (plan_at h) number ≡ false) × ((protocol_at h).gathers number ≡ true)
+  pub barrier_here : (number : ℕ) → boundary_at (turns_tree x.turns) (turns_plan x.turns) number ≡ Barrier → (joins (tree_at h) (plan_at h) number ≡ false) × ((protocol_at h).gathers number ≡ true)
   barrier_here number b = barrier_is (kind_here number) (plan_at h).workers (boundary_here number Barrier b)
 
-  pub join_here : (number : ℕ) → boundary_at (styled_tree x.turns) (styled_plan x.turns) number ≡ Join → (joins (tree_at h) (plan_at h) number ≡ true) × ((protocol_at h).gathers number ≡ false)
+  pub join_here : (number : ℕ) → boundary_at (turns_tree x.turns) (turns_plan x.turns) number ≡ Join → (joins (tree_at h) (plan_at h) number ≡ true) × ((protocol_at h).gathers number ≡ false)
   join_here number b = join_is (kind_here number) (plan_at h).workers (boundary_here number Join b)
 
-  pub no_barrier_here : (number : ℕ) → (boundary_at (styled_tree x.turns) (styled_plan x.turns) number ≡ Barrier → ⊥) → (protocol_at h).gathers number ≡ false
+  pub no_barrier_here : (number : ℕ) → (boundary_at (turns_tree x.turns) (turns_plan x.turns) number ≡ Barrier → ⊥) → (protocol_at h).gathers number ≡ false
   no_barrier_here number not_so = no_barrier_is (kind_here number) (plan_at h).workers (λ b. not_so ((λ i. boundary_at (ready.tree i) (ready.plan i) number) ∙ b))
 
   module _ (held : AreHeld x.seat.home) where
     -- a post or an await comes next
-    pub post_act : (word : Word) (number : ℕ) (rest : List StyledTurn) → styled_left x.turns ≡ sets word number ∷ rest → act_at (protocol_at h) p (walk_place x) ≡ Some (post word number)
+    pub post_act : (word : Word) (number : ℕ) (rest : List Turn) → turns_left x.turns ≡ sets word number ∷ rest → act_at (protocol_at h) p (walk_place x) ≡ Some (post word number)
     post_act word number rest is = post_there h held p (its_worker x ready) word (walk_place x) number (at_deed x ready (sets word number) rest (posting word number) [] is refl).there
 
-    pub post_here : (word : Word) (number : ℕ) (rest : List StyledTurn) → styled_left x.turns ≡ sets word number ∷ rest → x.seat.position ≡ walk_place x
+    pub post_here : (word : Word) (number : ℕ) (rest : List Turn) → turns_left x.turns ≡ sets word number ∷ rest → x.seat.position ≡ walk_place x
     post_here word number rest is = sym ready.settled ∙ post_stands h p word (walk_place x) number (post_act word number rest is)
 
-    pub post_next : (word : Word) (number : ℕ) (rest : List StyledTurn) → styled_left x.turns ≡ sets word number ∷ rest → next_act x.seat ≡ Some (post word number)
+    pub post_next : (word : Word) (number : ℕ) (rest : List Turn) → turns_left x.turns ≡ sets word number ∷ rest → next_act x.seat ≡ Some (post word number)
     post_next word number rest is = ap (act_at (protocol_at h) p) (post_here word number rest is) ∙ post_act word number rest is
 
-    pub await_act : (word : Word) (on wanted : ℕ) (rest : List StyledTurn) → styled_left x.turns ≡ waits word on wanted ∷ rest → act_at (protocol_at h) p (walk_place x) ≡ Some (await word on wanted)
+    pub await_act : (word : Word) (on wanted : ℕ) (rest : List Turn) → turns_left x.turns ≡ waits word on wanted ∷ rest → act_at (protocol_at h) p (walk_place x) ≡ Some (await word on wanted)
     await_act word on wanted rest is = await_there h held p (its_worker x ready) word (walk_place x) on wanted (at_deed x ready (waits word on wanted) rest (awaiting word on wanted) [] is refl).there
 
-    pub await_here : (word : Word) (on wanted : ℕ) (rest : List StyledTurn) → styled_left x.turns ≡ waits word on wanted ∷ rest → x.seat.position ≡ walk_place x
+    pub await_here : (word : Word) (on wanted : ℕ) (rest : List Turn) → turns_left x.turns ≡ waits word on wanted ∷ rest → x.seat.position ≡ walk_place x
     await_here word on wanted rest is = sym ready.settled ∙ await_stands h p word (walk_place x) on wanted (await_act word on wanted rest is)
 
-    pub await_next : (word : Word) (on wanted : ℕ) (rest : List StyledTurn) → styled_left x.turns ≡ waits word on wanted ∷ rest → next_act x.seat ≡ Some (await word on wanted)
+    pub await_next : (word : Word) (on wanted : ℕ) (rest : List Turn) → turns_left x.turns ≡ waits word on wanted ∷ rest → next_act x.seat ≡ Some (await word on wanted)
     await_next word on wanted rest is = ap (act_at (protocol_at h) p) (await_here word on wanted rest is) ∙ await_act word on wanted rest is
 
     -- behind it
-    deed_passes : (y : Walk) (t : StyledTurn) → y.seat ≡ gone x.seat → y.executor ≡ x.executor → y.own ≡ x.own → y.ended ≡ x.ended → HasCome x.turns y.turns → styled_left x.turns ≡ t ∷ styled_left y.turns → length (deeds_in h p (t ∷ [])) ≡ 1
+    deed_passes : (y : Walk) (t : Turn) → y.seat ≡ gone x.seat → y.executor ≡ x.executor → y.own ≡ x.own → y.ended ≡ x.ended → HasCome x.turns y.turns → turns_left x.turns ≡ t ∷ turns_left y.turns → length (deeds_in h p (t ∷ [])) ≡ 1
         → x.seat.position ≡ walk_place x → held_cells h p (walk_place x + 1) ≡ held_cells h p (walk_place x) → registers_behind x.seat (walk_place x + 1) ≡ registers_behind x.seat (walk_place x) → printed_behind x.seat (walk_place x + 1) ≡ printed_behind x.seat (walk_place x)
         → AreAnswered y.seat y.answered → Passes x y (t ∷ [])
     deed_passes y t seat executor own over come turns one here keeps leaves prints answered =
@@ -189,29 +189,29 @@ module _ (x : Walk) (ready : IsReady x) where
           over = over;
         }
 
-    pub post_passes : (y : Walk) (word : Word) (number : ℕ) → y.seat ≡ gone x.seat → y.executor ≡ x.executor → y.own ≡ x.own → y.ended ≡ x.ended → HasCome x.turns y.turns → styled_left x.turns ≡ sets word number ∷ styled_left y.turns → AreAnswered y.seat y.answered → Passes x y (sets word number ∷ [])
+    pub post_passes : (y : Walk) (word : Word) (number : ℕ) → y.seat ≡ gone x.seat → y.executor ≡ x.executor → y.own ≡ x.own → y.ended ≡ x.ended → HasCome x.turns y.turns → turns_left x.turns ≡ sets word number ∷ turns_left y.turns → AreAnswered y.seat y.answered → Passes x y (sets word number ∷ [])
     post_passes y word number seat executor own over come turns answered =
-        let act = post_act word number (styled_left y.turns) turns in
-        deed_passes y (sets word number) seat executor own over come turns refl (post_here word number (styled_left y.turns) turns) (post_keeps h p (walk_place x) word number act)
+        let act = post_act word number (turns_left y.turns) turns in
+        deed_passes y (sets word number) seat executor own over come turns refl (post_here word number (turns_left y.turns) turns) (post_keeps h p (walk_place x) word number act)
         (held.laws.post_leaves word p (walk_place x) number act) (held.laws.printed_leaves p (walk_place x) (post word number) act refl) answered
 
-    pub await_passes : (y : Walk) (word : Word) (on wanted : ℕ) → y.seat ≡ gone x.seat → y.executor ≡ x.executor → y.own ≡ x.own → y.ended ≡ x.ended → HasCome x.turns y.turns → styled_left x.turns ≡ waits word on wanted ∷ styled_left y.turns → AreAnswered y.seat y.answered
+    pub await_passes : (y : Walk) (word : Word) (on wanted : ℕ) → y.seat ≡ gone x.seat → y.executor ≡ x.executor → y.own ≡ x.own → y.ended ≡ x.ended → HasCome x.turns y.turns → turns_left x.turns ≡ waits word on wanted ∷ turns_left y.turns → AreAnswered y.seat y.answered
         → Passes x y (waits word on wanted ∷ [])
     await_passes y word on wanted seat executor own over come turns answered =
-        let act = await_act word on wanted (styled_left y.turns) turns in
-        deed_passes y (waits word on wanted) seat executor own over come turns refl (await_here word on wanted (styled_left y.turns) turns) (await_keeps h p (walk_place x) word on wanted act)
+        let act = await_act word on wanted (turns_left y.turns) turns in
+        deed_passes y (waits word on wanted) seat executor own over come turns refl (await_here word on wanted (turns_left y.turns) turns) (await_keeps h p (walk_place x) word on wanted act)
         (held.laws.await_leaves word p (walk_place x) on wanted act) (held.laws.printed_leaves p (walk_place x) (await word on wanted) act refl) answered
 
 -- the first of turns is the one that is passed
-pub same_turn : {t u : StyledTurn} {rest left new : List StyledTurn} → left ≡ t ∷ rest → left ≡ u ∷ new → left ≡ t ∷ new
+pub same_turn : {t u : Turn} {rest left new : List Turn} → left ≡ t ∷ rest → left ≡ u ∷ new → left ≡ t ∷ new
 same_turn {t} {u} {rest} {left} {new} is passed = let both : t ∷ rest ≡ u ∷ new = sym is ∙ passed in let first : t ≡ u = cc in passed ∙ ap (λ z. z ∷ new) (sym first)
 
-pub leads_on : (x y : Walk) (t : StyledTurn) → styled_left x.turns ≡ t ∷ styled_left y.turns → beginnings_left y.turns ≡ beginnings_left x.turns → IsFurther x.seat y.seat → (1 < (protocol_at x.seat.home).workers → y.answered ≡ x.answered) → LeadsOn x y
+pub leads_on : (x y : Walk) (t : Turn) → turns_left x.turns ≡ t ∷ turns_left y.turns → beginnings_left y.turns ≡ beginnings_left x.turns → IsFurther x.seat y.seat → (1 < (protocol_at x.seat.home).workers → y.answered ≡ x.answered) → LeadsOn x y
 leads_on x y t turns begins further answered = record {
   further = further;
   answered = answered;
   less = (
-      let longer : length (styled_left x.turns) ≡ suc (length (styled_left y.turns)) = ap (λ (l : List StyledTurn). length l) turns in
+      let longer : length (turns_left x.turns) ≡ suc (length (turns_left y.turns)) = ap (λ (l : List Turn). length l) turns in
       let same : length (beginnings_left y.turns) ≡ length (beginnings_left x.turns) = ap (λ (l : List ℕ). length l) begins in
       omega (arith, longer, same)
       );

@@ -1,4 +1,4 @@
--- Turns that a walk has done, deed by deed, among which is no post of a counter.
+-- CounterTurns that a walk has done, deed by deed, among which is no post of a counter.
 use Rattle.std.proofs.Common.{◌≡◌, get_or, ℕ, zero, suc, ◌+◌, ◌-◌, ◌<◌, ◌≤◌, ℤ, false, List, [], ◌∷◌, ◌++◌, length, map, drop, Option, Some, None, sym, ◌∙◌, ap, subst, ⊎_elim, arith, sum_by, length-append, length-drop}
 use Rattle.std.specs.Prelude.{slice_get}
 use Rattle.std.proofs.lemmas.Bool.{cases_lt}
@@ -10,15 +10,15 @@ use Rattle.spmd_model.specs.Machines.{machine_by}
 use Rattle.spmd_model.specs.Timelines.{counter, post}
 use Rattle.spmd_model.specs.Protocols.{act_at}
 use Rattle.spmd_model.proofs.ProtocolLists.{get_drop}
-use Rattle.spmd_turns.specs.Executors.{CanExecute, executor_output, executor_room, executor_tree}
-use Rattle.styled_turns.specs.StyledTurns.{StyledTurn, styled_deeds, styled_room}
-use Rattle.styled_turns.specs.StyledLeft.{beginnings_left, styled_left}
+use Rattle.instance_runs.specs.Executors.{CanExecute, executor_output, executor_room, executor_tree}
+use Rattle.turns.specs.Turns.{Turn, turn_deeds, turn_room}
+use Rattle.turns.specs.TurnsLeft.{beginnings_left, turns_left}
 use Rattle.shared_words.specs.Places.{settled_at}
 use Rattle.shared_words.specs.Homes.{Home, protocol_at}
 use Rattle.spmd_workers.specs.Held.{AreHeld}
 use Rattle.spmd_workers.specs.Legs.{AreAnswered, IsFurther, IsSameSeat}
 use Rattle.spmd_workers.specs.Places.{deeds_at, deeds_in, held_cells, left_behind, place_of, plan_at, printed_behind, registers_behind, style_at, tree_at, turns_at}
-use Rattle.spmd_workers.specs.Walks.{GoesTo, IsReady, LeadsOn, walk_place}
+use Rattle.spmd_workers.specs.Walks.{GoesTo, IsWalk, LeadsOn, walk_place}
 use Rattle.spmd_workers.specs.declared.walk.Walk.{Walk}
 use Rattle.spmd_workers.proofs.SharedSteps.{Shows, left_shows, on_further}
 use Rattle.spmd_workers.proofs.Steps.{answered_more, no_post_between}
@@ -58,7 +58,7 @@ get_or_there : (ds : List Deed) (k : ℕ) → k < length ds → (d : Deed) × (s
 get_or_there ds k inside = let d = get_or ds k (printing (λ _. [])) in (d, slice_get-get_or ds k (printing (λ _. [])) inside)
 
 -- no post of a counter stands among the acts of turns that have none, and those that are passed behind them
-pub none_among : (x : Walk) (ready : IsReady x) → AreHeld x.seat.home → (ts rest : List StyledTurn) → styled_left x.turns ≡ ts ++ rest → AreNoPosts (deeds_in x.seat.home x.seat.processor ts) → (k number : ℕ) → walk_place x ≤ k
+pub none_among : (x : Walk) (ready : IsWalk x) → AreHeld x.seat.home → (ts rest : List Turn) → turns_left x.turns ≡ ts ++ rest → AreNoPosts (deeds_in x.seat.home x.seat.processor ts) → (k number : ℕ) → walk_place x ≤ k
     → k < walk_place x + length (deeds_in x.seat.home x.seat.processor ts) → act_at (protocol_at x.seat.home) x.seat.processor k ≡ Some (post counter number) → ⊥
 none_among x ready held ts rest turns none k number le lt e =
     let h = x.seat.home in
@@ -72,12 +72,12 @@ none_among x ready held ts rest turns none k number le lt e =
     let act : a.0 ≡ post counter number = cc in
     let deed : d.0 ≡ posting counter number = sym a.2 ∙ ap (deed_of (machine_by (style_at h) (tree_at h) (plan_at h))) act in
     let j : walk_place x + (k - walk_place x) ≡ k = omega (arith, le) in
-    let here : drop (walk_place x) ds ≡ deeds_in h p ts ++ deeds_in h p rest = drop_here x ready ∙ ap (deeds_in h p) turns ∙ flat_map-append (styled_deeds (tree_at h) (plan_at h) p) ts rest in
+    let here : drop (walk_place x) ds ≡ deeds_in h p ts ++ deeds_in h p rest = drop_here x ready ∙ ap (deeds_in h p) turns ∙ flat_map-append (turn_deeds (tree_at h) (plan_at h) p) ts rest in
     let among : slice_get (deeds_in h p ts ++ deeds_in h p rest) (k - walk_place x) ≡ Some (posting counter number) =
     ap (λ l. slice_get l (k - walk_place x)) (sym here) ∙ get_drop ds (walk_place x) (k - walk_place x) ∙ ap (slice_get ds) j ∙ d.1 ∙ ap (λ z. Some z) deed in
     no_post_in (deeds_in h p ts) (deeds_in h p rest) (k - walk_place x) number none (omega (arith, le, lt)) among
 
-pub still_answered : (x y : Walk) (ready : IsReady x) → AreHeld x.seat.home → (ts rest : List StyledTurn) → styled_left x.turns ≡ ts ++ rest → AreNoPosts (deeds_in x.seat.home x.seat.processor ts) → IsSameSeat x.seat y.seat
+pub still_answered : (x y : Walk) (ready : IsWalk x) → AreHeld x.seat.home → (ts rest : List Turn) → turns_left x.turns ≡ ts ++ rest → AreNoPosts (deeds_in x.seat.home x.seat.processor ts) → IsSameSeat x.seat y.seat
     → settled_at (protocol_at x.seat.home) x.seat.processor (walk_place x + length (deeds_in x.seat.home x.seat.processor ts)) ≡ y.seat.position → y.answered ≡ x.answered → AreAnswered y.seat y.answered
 still_answered x y ready held ts rest turns none same settles kept =
     let h = x.seat.home in
@@ -89,8 +89,8 @@ still_answered x y ready held ts rest turns none same settles kept =
 
 -- ---- behind them
 
-module _ (x : Walk) (ready : IsReady x) (held : AreHeld x.seat.home) (y : Walk) (ts : List StyledTurn) (done : ℕ) (same : IsSameSeat x.seat y.seat) (turns : styled_left x.turns ≡ ts ++ styled_left y.turns) (none : AreNoPosts (deeds_in x.seat.home x.seat.processor ts))
-    (as_many : length (left_behind x.seat y.seat y.own (place_of y.seat x.turns + done)) ≡ length (deeds_in x.seat.home x.seat.processor (styled_left y.turns))) where
+module _ (x : Walk) (ready : IsWalk x) (held : AreHeld x.seat.home) (y : Walk) (ts : List Turn) (done : ℕ) (same : IsSameSeat x.seat y.seat) (turns : turns_left x.turns ≡ ts ++ turns_left y.turns) (none : AreNoPosts (deeds_in x.seat.home x.seat.processor ts))
+    (as_many : length (left_behind x.seat y.seat y.own (place_of y.seat x.turns + done)) ≡ length (deeds_in x.seat.home x.seat.processor (turns_left y.turns))) where
   abbrev h : Home
   h = x.seat.home
 
@@ -100,20 +100,20 @@ module _ (x : Walk) (ready : IsReady x) (held : AreHeld x.seat.home) (y : Walk) 
   abbrev n : ℕ
   n = walk_place x + length (deeds_in h p ts)
 
-  split : turns_at h p ≡ ready.front ++ (ts ++ styled_left y.turns)
+  split : turns_at h p ≡ ready.front ++ (ts ++ turns_left y.turns)
   split = ready.behind ∙ ap (λ l. ready.front ++ l) turns
 
-  few : length (deeds_in h p (styled_left y.turns)) ≤ length (deeds_at h p)
+  few : length (deeds_in h p (turns_left y.turns)) ≤ length (deeds_at h p)
   few =
-      let all : length (deeds_at h p) ≡ length (deeds_in h p ready.front) + length (deeds_in h p (ts ++ styled_left y.turns)) = whole in
-      let more : length (deeds_in h p (ts ++ styled_left y.turns)) ≡ length (deeds_in h p ts) + length (deeds_in h p (styled_left y.turns)) = parts in
+      let all : length (deeds_at h p) ≡ length (deeds_in h p ready.front) + length (deeds_in h p (ts ++ turns_left y.turns)) = whole in
+      let more : length (deeds_in h p (ts ++ turns_left y.turns)) ≡ length (deeds_in h p ts) + length (deeds_in h p (turns_left y.turns)) = parts in
       omega (arith, all, more)
     where
-      whole : length (deeds_at h p) ≡ length (deeds_in h p ready.front) + length (deeds_in h p (ts ++ styled_left y.turns))
-      whole = ap (λ (l : List Deed). length l) (whole_deeds h p ready.front (ts ++ styled_left y.turns) split) ∙ length-append (deeds_in h p ready.front) (deeds_in h p (ts ++ styled_left y.turns))
+      whole : length (deeds_at h p) ≡ length (deeds_in h p ready.front) + length (deeds_in h p (ts ++ turns_left y.turns))
+      whole = ap (λ (l : List Deed). length l) (whole_deeds h p ready.front (ts ++ turns_left y.turns) split) ∙ length-append (deeds_in h p ready.front) (deeds_in h p (ts ++ turns_left y.turns))
 
-      parts : length (deeds_in h p (ts ++ styled_left y.turns)) ≡ length (deeds_in h p ts) + length (deeds_in h p (styled_left y.turns))
-      parts = ap (λ (l : List Deed). length l) (flat_map-append (styled_deeds (tree_at h) (plan_at h) p) ts (styled_left y.turns)) ∙ length-append (deeds_in h p ts) (deeds_in h p (styled_left y.turns))
+      parts : length (deeds_in h p (ts ++ turns_left y.turns)) ≡ length (deeds_in h p ts) + length (deeds_in h p (turns_left y.turns))
+      parts = ap (λ (l : List Deed). length l) (flat_map-append (turn_deeds (tree_at h) (plan_at h) p) ts (turns_left y.turns)) ∙ length-append (deeds_in h p ts) (deeds_in h p (turns_left y.turns))
 
   abbrev m : ℕ
   m = place_of y.seat x.turns + done
@@ -126,12 +126,12 @@ module _ (x : Walk) (ready : IsReady x) (held : AreHeld x.seat.home) (y : Walk) 
 
   pub placed : m ≡ n
   placed =
-      let size : length (drop m (deeds_at y.seat.home y.seat.processor)) ≡ length (deeds_in h p (styled_left y.turns)) = ap (λ (l : List Deed). length l) (sym shown.1) ∙ as_many in
+      let size : length (drop m (deeds_at y.seat.home y.seat.processor)) ≡ length (deeds_in h p (turns_left y.turns)) = ap (λ (l : List Deed). length l) (sym shown.1) ∙ as_many in
       let dropped = length-drop m (deeds_at y.seat.home y.seat.processor) in
       let within = shown.0.within in
       let long = ap (λ (l : List Deed). length l) same_deeds in
-      let more = place_more h p ready.front ts (styled_left y.turns) split in
-      let before : length (deeds_at h p) - length (deeds_in h p (ts ++ styled_left y.turns)) ≡ walk_place x = ap (λ l. length (deeds_at h p) - length (deeds_in h p l)) (sym turns) in
+      let more = place_more h p ready.front ts (turns_left y.turns) split in
+      let before : length (deeds_at h p) - length (deeds_in h p (ts ++ turns_left y.turns)) ≡ walk_place x = ap (λ l. length (deeds_at h p) - length (deeds_in h p l)) (sym turns) in
       let low = few in
       omega (arith, size, dropped, within, long, more, before, low)
 
@@ -145,7 +145,7 @@ module _ (x : Walk) (ready : IsReady x) (held : AreHeld x.seat.home) (y : Walk) 
   holds = shown.0.holds ∙ (λ i. held_cells (same.home i) (same.processor i) (placed i))
 
   module _ (come : HasCome x.turns y.turns) (idle : registers_behind y.seat m ≡ []) (can : CanExecute y.executor) (executes : executor_tree y.executor ≡ executor_tree x.executor) (output : executor_output y.executor ≡ printed_behind y.seat m)
-      (grown : length (executor_output y.executor) ≤ length (executor_output x.executor) + sum_by (styled_room (tree_at x.seat.home)) ts) (room : executor_room x.executor ≤ executor_room y.executor) (answered : y.answered ≡ x.answered) (over : y.ended ≡ x.ended) where
+      (grown : length (executor_output y.executor) ≤ length (executor_output x.executor) + sum_by (turn_room (tree_at x.seat.home)) ts) (room : executor_room x.executor ≤ executor_room y.executor) (answered : y.answered ≡ x.answered) (over : y.ended ≡ x.ended) where
     turns_pass : Passes x y ts
     turns_pass = record {
       seat = same;
@@ -159,7 +159,7 @@ module _ (x : Walk) (ready : IsReady x) (held : AreHeld x.seat.home) (y : Walk) 
       output = output ∙ (λ i. (protocol_at (same.home i)).printed_at (same.processor i) (placed i));
       grown = grown;
       room = room;
-      answered = still_answered x y ready held ts (styled_left y.turns) turns none same settles answered;
+      answered = still_answered x y ready held ts (turns_left y.turns) turns none same settles answered;
       over = over;
     }
 
@@ -171,7 +171,7 @@ module _ (x : Walk) (ready : IsReady x) (held : AreHeld x.seat.home) (y : Walk) 
     further = went_further;
     answered = λ several. answered;
     less = (
-        let both : length (styled_left x.turns) ≡ length ts + length (styled_left y.turns) = ap (λ (l : List StyledTurn). length l) turns ∙ length-append ts (styled_left y.turns) in
+        let both : length (turns_left x.turns) ≡ length ts + length (turns_left y.turns) = ap (λ (l : List Turn). length l) turns ∙ length-append ts (turns_left y.turns) in
         let phases : length (beginnings_left y.turns) ≡ length (beginnings_left x.turns) = ap (λ (l : List ℕ). length l) begins in
         omega (arith, both, some, phases)
         );

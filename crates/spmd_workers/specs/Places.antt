@@ -11,10 +11,10 @@ use Rattle.spmd_model.specs.Deeds.{Deed, posting}
 use Rattle.spmd_model.specs.Timelines.{signal}
 use Rattle.spmd_model.specs.declared.style.Style.{Style}
 use Rattle.spmd_model.specs.Protocols.{held_at}
-use Rattle.spmd_turns.specs.Turns.{turns_from}
-use Rattle.styled_turns.specs.StyledTurns.{StyledTurn, first_standing, styled, styled_deeds}
-use Rattle.styled_turns.specs.StyledLeft.{styled_left, styled_place}
-use Rattle.styled_turns.specs.declared.turns.StyledTurns.{StyledTurns}
+use Rattle.turns.specs.CounterTurns.{counter_turns}
+use Rattle.turns.specs.Turns.{Turn, first_standing, turns_by, turn_deeds}
+use Rattle.turns.specs.TurnsLeft.{turns_left, turns_place}
+use Rattle.turns.specs.declared.turns.Turns.{Turns}
 use Rattle.fork_join.specs.SeenDeeds.{phase_deed, shared_deed}
 use Rattle.shared_words.specs.Places.{settled_at}
 use Rattle.shared_words.specs.Homes.{CellView, Home, plan_given, protocol_at, style_given, tree_given}
@@ -29,19 +29,19 @@ abbrev pub style_at : Home → Style
 style_at h = style_given h.given
 
 -- all turns of a processor, and all its deeds
-abbrev pub turns_at : Home → ℕ → List StyledTurn
-turns_at h p = styled (style_at h) (tree_at h) (plan_at h) p first_standing (turns_from (tree_at h) (plan_at h) p 1 (phases (tree_at h) (plan_at h).cut.marks))
+abbrev pub turns_at : Home → ℕ → List Turn
+turns_at h p = turns_by (style_at h) (tree_at h) (plan_at h) p first_standing (counter_turns (tree_at h) (plan_at h) p 1 (phases (tree_at h) (plan_at h).cut.marks))
 
 -- its deeds in turns
-abbrev pub deeds_in : Home → ℕ → List StyledTurn → List Deed
-deeds_in h p ts = flat_map (styled_deeds (tree_at h) (plan_at h) p) ts
+abbrev pub deeds_in : Home → ℕ → List Turn → List Deed
+deeds_in h p ts = flat_map (turn_deeds (tree_at h) (plan_at h) p) ts
 
 unfoldable pub deeds_at : Home → ℕ → List Deed
 deeds_at h p = deeds_in h p (turns_at h p)
 
 -- how many deeds the processor of a seat has done that has these turns left
-abbrev pub place_of : CellView → StyledTurns → ℕ
-place_of v t = length (deeds_at v.home v.processor) - length (deeds_in v.home v.processor (styled_left t))
+abbrev pub place_of : CellView → Turns → ℕ
+place_of v t = length (deeds_at v.home v.processor) - length (deeds_in v.home v.processor (turns_left t))
 
 -- ---- own cells
 
@@ -80,5 +80,5 @@ printed_behind v n = (protocol_at v.home).printed_at v.processor n
 abbrev pub left_shared : CellView → CellView → List ℤ → ℕ → List Deed
 left_shared from v own n = map (shared_deed (tree_at v.home)) (left_behind from v own n)
 
-abbrev pub left_own : StyledTurns → CellView → CellView → List ℤ → ℕ → List Deed
-left_own t from v own n = map (phase_deed (tree_at v.home) (plan_at v.home) (styled_place t) v.processor) (left_behind from v own n)
+abbrev pub left_own : Turns → CellView → CellView → List ℤ → ℕ → List Deed
+left_own t from v own n = map (phase_deed (tree_at v.home) (plan_at v.home) (turns_place t) v.processor) (left_behind from v own n)

@@ -8,7 +8,7 @@ use Rattle.nest_walk.specs.Tables.{IsCellTable}
 use Rattle.nest_walk.specs.declared.table.CellTable.{CellTable}
 use Rattle.sync_plan.specs.Fit.{IsFit}
 use Rattle.sync_plan.specs.declared.plan.Plan.{Plan}
-use Rattle.spmd_turns.specs.Rooms.{longest_output}
+use Rattle.instance_runs.specs.Rooms.{longest_output}
 
 -- they are those of a program under a plan that fits it
 pub record AreTables (tree : Tree) (plan : Plan) (table : CellTable) (params : List ℤ) (room : ℕ) : Type 0 where

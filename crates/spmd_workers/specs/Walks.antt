@@ -7,10 +7,10 @@ use Rattle.nest_model.specs.Accesses.{cells_of}
 use Rattle.nest_model.specs.Instances.{Instance}
 use Rattle.nest_model.specs.Ranges.{is_instance_inside}
 use Rattle.owner_partition.specs.Phases.{phases}
-use Rattle.spmd_turns.specs.Executors.{CanExecute, executor_output, executor_room, executor_tree}
-use Rattle.styled_turns.specs.StyledTurns.{StyledTurn, runs_only, styled_room}
-use Rattle.styled_turns.specs.StyledLeft.{AreStyled, IsStyledNext, beginnings_left, styled_left, styled_plan, styled_processor, styled_style, styled_tree}
-use Rattle.styled_turns.specs.declared.turns.StyledNext.{StyledNext}
+use Rattle.instance_runs.specs.Executors.{CanExecute, executor_output, executor_room, executor_tree}
+use Rattle.turns.specs.Turns.{Turn, runs_only, turn_room}
+use Rattle.turns.specs.TurnsLeft.{AreSound, IsNext, beginnings_left, turns_left, turns_plan, turns_processor, turns_style, turns_tree}
+use Rattle.turns.specs.declared.turns.Next.{Next}
 use Rattle.shared_words.specs.Places.{settled_at}
 use Rattle.shared_words.specs.Calls.{IsEndedSeat}
 use Rattle.shared_words.specs.Homes.{protocol_at}
@@ -25,43 +25,43 @@ abbrev pub is_instance_there : Tree → Instance → Bool
 is_instance_there tree i = is_instance_inside tree i && list_all (λ c. nat_lt c (cell_count tree)) (cells_of tree i)
 
 -- of one that a turn runs
-abbrev pub is_styled_there : Tree → StyledTurn → Bool
-is_styled_there tree = runs_only (is_instance_there tree)
+abbrev pub is_turn_there : Tree → Turn → Bool
+is_turn_there tree = runs_only (is_instance_there tree)
 
 abbrev pub walk_place : Walk → ℕ
 walk_place x = place_of x.seat x.turns
 
 -- all its turns are done, and its seat stands behind all acts, with nothing left to print
 pub record IsAtEnd (x : Walk) : Type 0 where
-  pub none : styled_left x.turns ≡ []
+  pub none : turns_left x.turns ≡ []
   pub seat : IsEndedSeat x.seat
   pub placed : walk_place x ≡ x.seat.position
 
 -- its turns are those that its seat's processor has left, and what it executes instances with has come as far
-pub record IsReady (x : Walk) : Type 0 where
-  pub front : List StyledTurn
-  pub behind : turns_at x.seat.home x.seat.processor ≡ front ++ styled_left x.turns
+pub record IsWalk (x : Walk) : Type 0 where
+  pub front : List Turn
+  pub behind : turns_at x.seat.home x.seat.processor ≡ front ++ turns_left x.turns
   pub begun : List ℕ
   pub begins : range_with_len 1 (length (phases (tree_at x.seat.home) (plan_at x.seat.home).cut.marks)) ≡ begun ++ beginnings_left x.turns
-  pub sound : AreStyled x.turns
-  pub tree : styled_tree x.turns ≡ tree_at x.seat.home
-  pub plan : styled_plan x.turns ≡ plan_at x.seat.home
-  pub processor : styled_processor x.turns ≡ x.seat.processor
-  pub style : styled_style x.turns ≡ style_at x.seat.home
+  pub sound : AreSound x.turns
+  pub tree : turns_tree x.turns ≡ tree_at x.seat.home
+  pub plan : turns_plan x.turns ≡ plan_at x.seat.home
+  pub processor : turns_processor x.turns ≡ x.seat.processor
+  pub style : turns_style x.turns ≡ style_at x.seat.home
   pub settled : settled_at (protocol_at x.seat.home) x.seat.processor (walk_place x) ≡ x.seat.position
   pub idle : registers_behind x.seat (walk_place x) ≡ []
   pub own : x.own ≡ held_cells x.seat.home x.seat.processor (walk_place x)
   pub can : CanExecute x.executor
   pub executes : executor_tree x.executor ≡ tree_at x.seat.home
   pub output : executor_output x.executor ≡ printed_behind x.seat (walk_place x)
-  pub room : length (executor_output x.executor) + sum_by (styled_room (tree_at x.seat.home)) (styled_left x.turns) ≤ executor_room x.executor
-  pub there : IsTrue (list_all (is_styled_there (tree_at x.seat.home)) (styled_left x.turns))
+  pub room : length (executor_output x.executor) + sum_by (turn_room (tree_at x.seat.home)) (turns_left x.turns) ≤ executor_room x.executor
+  pub there : IsTrue (list_all (is_turn_there (tree_at x.seat.home)) (turns_left x.turns))
   pub answered : AreAnswered x.seat x.answered
   pub over : x.ended ≡ true → IsAtEnd x
 
 -- a turn of a leg leads on
 pub record GoesTo (old new : Walk) : Type 0 where
-  pub ready : IsReady new
+  pub ready : IsWalk new
   pub seat : IsSameSeat old.seat new.seat
   pub answered : old.answered ≤ new.answered
   pub legs : new.patience.legs ≡ old.patience.legs
@@ -74,7 +74,7 @@ Answers old new (Waiting on wanted seen) = (old.seat.position ≤ new.seat.posit
 
 -- how much is left: turns, and phases that have still to begin
 abbrev pub to_go : Walk → ℕ
-to_go x = length (styled_left x.turns) + length (beginnings_left x.turns)
+to_go x = length (turns_left x.turns) + length (beginnings_left x.turns)
 
 -- a turn or more are done, or a phase has begun, and nothing ends the leg; among several processors no join was answered
 pub record LeadsOn (old new : Walk) : Type 0 where
@@ -93,5 +93,5 @@ abbrev pub TurnTells : Walk → Walk → Option Leg → Type 0
 TurnTells old new result = MatchOption result (LeadsOn old new) (EndsLeg old new)
 
 -- this comes next of a walk
-abbrev pub ComesNext : Walk → StyledNext → Type 0
-ComesNext x next = IsStyledNext x.turns next
+abbrev pub ComesNext : Walk → Next → Type 0
+ComesNext x next = IsNext x.turns next

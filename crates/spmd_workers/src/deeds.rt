@@ -6,11 +6,11 @@ ghost use Rattle.shared_words.specs.Codes.{home_code};
 ghost use Rattle.shared_words.specs.Homes.{protocol_at};
 
 use crate::laws::laws_of;
+use instance_runs::{Deeds, Progress};
 use own_cells::OWN_PLACES;
 use shared_words::{CellSeat, Cells};
-use spmd_turns::{Deeds, Progress};
 use std::snapshot::Snapshot;
-use styled_turns::StyledTurns;
+use turns::Turns;
 
 // The cells of all, through one processor's seat. Proofs alone see the turns that it had left in
 // front of the first deed, its seat there, its own cells, and how many deeds are done since.
@@ -19,7 +19,7 @@ pub(crate) struct SharedDeeds<'b, 's, 't, 'c, 'a> {
     pub(crate) cells: &'b Cells<'c>,
     pub(crate) seat: &'s mut CellSeat,
     pub(crate) own: &'t [i64; OWN_PLACES],
-    pub(crate) turns: &'t Snapshot<StyledTurns<'a>>,
+    pub(crate) turns: &'t Snapshot<Turns<'a>>,
     pub(crate) from: &'t Snapshot<CellSeat>,
     pub(crate) done: Progress,
     ghost same_table: { seat.now.home
@@ -30,7 +30,7 @@ pub(crate) struct SharedDeeds<'b, 's, 't, 'c, 'a> {
 impl Deeds for SharedDeeds<'_, '_, '_, '_, '_> {
     ghost use Rattle.std.specs.Prelude.{ℕ, ℤ, List, ◌+◌};
     ghost use Rattle.shared_words.specs.Homes.{CellView, Home};
-    ghost use Rattle.styled_turns.specs.declared.turns.StyledTurns.{StyledTurns};
+    ghost use Rattle.turns.specs.declared.turns.Turns.{Turns};
     ghost use Rattle.spmd_workers.specs.Places.{left_shared, place_of, printed_behind, registers_behind};
 
     ghost left = { λ d. left_shared d.from.now.value d.seat.now d.own.now
@@ -42,7 +42,7 @@ impl Deeds for SharedDeeds<'_, '_, '_, '_, '_> {
     ghost printed = { λ d. printed_behind d.seat.now (place_of d.seat.now d.turns.now.value
         + d.done.done) };
 
-    ghost Kept = { ℕ × (Home × (StyledTurns × (Home × (ℕ × (CellView × List ℤ))))) };
+    ghost Kept = { ℕ × (Home × (Turns × (Home × (ℕ × (CellView × List ℤ))))) };
 
     ghost kept = { λ d. (
       d.seat.ghost_name,

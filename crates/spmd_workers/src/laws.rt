@@ -4,7 +4,7 @@ ghost use Rattle.spmd_workers.specs.Held.{AreHeld};
 
 use shared_words::Cells;
 use spmd_model::{arrivals_in_styles, own_cells_in_styles, values_in_styles};
-use styled_turns::laws::styled_turns_are_acts;
+use turns::laws::turns_are_acts;
 
 // The laws of the table's program under its plan in its style.
 #[inline(always)]
@@ -15,5 +15,5 @@ pub(crate) fn laws_of(cells: &Cells<'_>)
     values_in_styles();
     own_cells_in_styles();
     arrivals_in_styles();
-    styled_turns_are_acts();
+    turns_are_acts();
 }

@@ -8,11 +8,11 @@ ghost use Rattle.shared_words.specs.Homes.{protocol_at};
 ghost use Rattle.spmd_workers.specs.OwnPlaces.{AreKnown};
 
 use crate::laws::laws_of;
+use instance_runs::{Deeds, Progress};
 use own_cells::{OWN_PLACES, OwnCells};
 use shared_words::{CellSeat, Cells};
-use spmd_turns::{Deeds, Progress};
 use std::snapshot::Snapshot;
-use styled_turns::StyledTurns;
+use turns::Turns;
 
 // The cells of all, through one processor's seat, and those that it has for the own scalars of the
 // phase. Proofs alone see the turns that it had left in front of the first deed, its seat there, and
@@ -23,7 +23,7 @@ pub(crate) struct OwnDeeds<'b, 's, 'o, 't, 'c, 'a> {
     pub(crate) seat: &'s mut CellSeat,
     pub(crate) own: &'o mut [i64; OWN_PLACES],
     pub(crate) scalars: &'t OwnCells,
-    pub(crate) turns: &'t Snapshot<StyledTurns<'a>>,
+    pub(crate) turns: &'t Snapshot<Turns<'a>>,
     pub(crate) from: &'t Snapshot<CellSeat>,
     pub(crate) done: Progress,
     ghost same_table: { seat.now.home
@@ -36,7 +36,7 @@ impl Deeds for OwnDeeds<'_, '_, '_, '_, '_, '_> {
     ghost use Rattle.std.specs.Prelude.{ℕ, ◌+◌};
     ghost use Rattle.own_cells.specs.declared.cells.OwnCells.{OwnCells};
     ghost use Rattle.shared_words.specs.Homes.{CellView, Home};
-    ghost use Rattle.styled_turns.specs.declared.turns.StyledTurns.{StyledTurns};
+    ghost use Rattle.turns.specs.declared.turns.Turns.{Turns};
     ghost use Rattle.spmd_workers.specs.Places.{left_own, place_of, printed_behind, registers_behind};
 
     ghost left = { λ d. left_own d.turns.now.value d.from.now.value d.seat.now d.own.now
@@ -48,7 +48,7 @@ impl Deeds for OwnDeeds<'_, '_, '_, '_, '_, '_> {
     ghost printed = { λ d. printed_behind d.seat.now (place_of d.seat.now d.turns.now.value
         + d.done.done) };
 
-    ghost Kept = { ℕ × (ℕ × (Home × (StyledTurns × (Home × (ℕ × (CellView × OwnCells)))))) };
+    ghost Kept = { ℕ × (ℕ × (Home × (Turns × (Home × (ℕ × (CellView × OwnCells)))))) };
 
     ghost kept = { λ d. (
       d.seat.ghost_name,

@@ -8,10 +8,10 @@ ghost use Rattle.nest_model.specs.Ranges.{IsInRange};
 ghost use Rattle.sync_plan.specs.Fit.{IsFit};
 
 use crate::patience::Round;
+use instance_runs::{longest_output, open_printing};
 use nest_tree::Program;
 use nest_walk::CellTable;
 use spmd_model::Style;
-use spmd_turns::{longest_output, open_printing};
 use std::alloc::{AllocError, Global};
 use std::marker::Model;
 use sync_plan::Plan;

@@ -8,13 +8,13 @@ use crate::own_deeds::OwnDeeds;
 use crate::patience::Patience;
 use crate::polls::{Awaited, poll_arrivals_until, poll_signal_until, poll_until};
 use crate::worker::Leg;
+use instance_runs::{Executor, Progress};
 use nest_walk::{Stop, Strip};
 use own_cells::{OWN_PLACES, is_sum_place};
 use shared_words::{CellSeat, Cells};
 use spmd_ports::Gate;
-use spmd_turns::{Boundary, Executor, Progress};
 use std::snapshot::Snapshot;
-use styled_turns::{NextOrPhase, StyledNext, StyledTurns};
+use turns::{Boundary, Next, NextOrPhase, Turns};
 
 // A worker's parts: its seat, the turns that it has left, its own cells by the places of own
 // scalars, what it executes instances with, the phase in front of which the Join stands that it
@@ -22,7 +22,7 @@ use styled_turns::{NextOrPhase, StyledNext, StyledTurns};
 #[derive(Drop)]
 pub(crate) struct Walk<'a> {
     pub(crate) seat: CellSeat,
-    pub(crate) turns: StyledTurns<'a>,
+    pub(crate) turns: Turns<'a>,
     pub(crate) own: [i64; OWN_PLACES],
     pub(crate) executor: Executor<'a>,
     pub(crate) answered: u64,
@@ -39,21 +39,21 @@ impl<'a> Walk<'a> {
     ghost use Rattle.nest_walk.specs.Strips.{strip_left, strip_tree};
     ghost use Rattle.spmd_model.specs.Deeds.{Deed, instance_deeds};
     ghost use Rattle.spmd_model.specs.MachineDeeds.{HasNoOwn};
-    ghost use Rattle.spmd_turns.specs.Executors.{Begins, CanExecute, executor_output, executor_room, executor_tree};
-    ghost use Rattle.spmd_turns.specs.Rooms.{visit_room};
-    ghost use Rattle.spmd_turns.specs.Turns.{boundary_at};
-    ghost use Rattle.spmd_turns.specs.declared.turns.Boundary.{Boundary};
-    ghost use Rattle.styled_turns.specs.StyledLeft.{beginnings_left, styled_left, styled_own, styled_place, styled_plan, styled_rounds, styled_tree};
-    ghost use Rattle.styled_turns.specs.declared.turns.StyledNext.{StyledNext};
+    ghost use Rattle.instance_runs.specs.Executors.{Begins, CanExecute, executor_output, executor_room, executor_tree};
+    ghost use Rattle.instance_runs.specs.Rooms.{visit_room};
+    ghost use Rattle.turns.specs.CounterTurns.{boundary_at};
+    ghost use Rattle.turns.specs.declared.counters.Boundary.{Boundary};
+    ghost use Rattle.turns.specs.TurnsLeft.{beginnings_left, turns_left, turns_own, turns_place, turns_plan, turns_rounds, turns_tree};
+    ghost use Rattle.turns.specs.declared.turns.Next.{Next};
     ghost use Rattle.shared_words.specs.Homes.{protocol_at};
     ghost use Rattle.spmd_workers.specs.OwnPlaces.{AreKnown};
     ghost use Rattle.spmd_workers.specs.Places.{left_own, left_shared, place_of, printed_behind, registers_behind};
-    ghost use Rattle.spmd_workers.specs.Walks.{ComesNext, EndsLeg, GoesTo, IsReady, LeadsOn, TurnTells, walk_place};
+    ghost use Rattle.spmd_workers.specs.Walks.{ComesNext, EndsLeg, GoesTo, IsWalk, LeadsOn, TurnTells, walk_place};
 
     // On to the next wait that takes too long, to the next Join, or to the end.
     #[tactic(auto, using(crate::proofs::Legs::goes_more, crate::proofs::Legs::further_more))]
     pub(crate) fn leg<G: Gate>(&mut self, cells: &Cells<'_>, gate: &G) -> Leg
-        requires ready { IsReady self.old }
+        requires ready { IsWalk self.old }
         requires own { self.old.seat.home ≡ cells.now }
         ensures goes { GoesTo self.old self.new }
         ensures ends { EndsLeg self.old self.new result }
@@ -68,7 +68,7 @@ impl<'a> Walk<'a> {
     // One turn, or a strip of them, or the beginning of a phase, also one without an instance; what
     // the leg answers where it ends there.
     fn turn<G: Gate>(&mut self, cells: &Cells<'_>, gate: &G) -> Option<Leg>
-        requires ready { IsReady self.old }
+        requires ready { IsWalk self.old }
         requires own { self.old.seat.home ≡ cells.now }
         ensures goes { GoesTo self.old self.new }
         ensures tells { TurnTells self.old self.new result }
@@ -86,29 +86,29 @@ impl<'a> Walk<'a> {
     }
 
     // What comes next.
-    fn act(&mut self, cells: &Cells<'_>, next: StyledNext<'a>) -> Option<Leg>
-        requires ready { IsReady self.old }
+    fn act(&mut self, cells: &Cells<'_>, next: Next<'a>) -> Option<Leg>
+        requires ready { IsWalk self.old }
         requires own { self.old.seat.home ≡ cells.now }
         requires next { ComesNext self.old next }
         ensures goes { GoesTo self.old self.new }
         ensures tells { TurnTells self.old self.new result }
     {
         match next {
-            StyledNext::Work(stop) => self.work(cells, stop),
-            StyledNext::Post(number) => self.post(cells, number),
-            StyledNext::Await { on, wanted } => self.wait(cells, on, wanted),
-            StyledNext::Signal(number) => self.signal(cells, number),
-            StyledNext::AwaitSignal { on, wanted } => self.wait_for_signal(cells, on, wanted),
-            StyledNext::Close(place) => self.close(cells, place),
-            StyledNext::End => self.end(cells),
+            Next::Work(stop) => self.work(cells, stop),
+            Next::Post(number) => self.post(cells, number),
+            Next::Await { on, wanted } => self.wait(cells, on, wanted),
+            Next::Signal(number) => self.signal(cells, number),
+            Next::AwaitSignal { on, wanted } => self.wait_for_signal(cells, on, wanted),
+            Next::Close(place) => self.close(cells, place),
+            Next::End => self.end(cells),
         }
     }
 
     // The end.
     fn end(&mut self, cells: &Cells<'_>) -> Option<Leg>
-        requires ready { IsReady self.old }
+        requires ready { IsWalk self.old }
         requires own { self.old.seat.home ≡ cells.now }
-        requires next { ComesNext self.old StyledNext.End }
+        requires next { ComesNext self.old Next.End }
         ensures goes { GoesTo self.old self.new }
         ensures tells { TurnTells self.old self.new result }
     {
@@ -119,12 +119,12 @@ impl<'a> Walk<'a> {
 
     // The trips that come next of a loop round one assignment; whether there are some.
     fn strip(&mut self, cells: &Cells<'_>) -> bool
-        requires ready { IsReady self.old }
+        requires ready { IsWalk self.old }
         requires own { self.old.seat.home ≡ cells.now }
         ensures goes { GoesTo self.old self.new }
         ensures on { result ≡ true → LeadsOn self.old self.new }
         ensures same { result ≡ false → self.new.seat ≡ self.old.seat }
-        ensures left { result ≡ false → styled_left self.new.turns ≡ styled_left self.old.turns }
+        ensures left { result ≡ false → turns_left self.new.turns ≡ turns_left self.old.turns }
         ensures begins { beginnings_left self.new.turns ≡ beginnings_left self.old.turns }
         ensures answered { self.new.answered ≡ self.old.answered }
     {
@@ -143,7 +143,7 @@ impl<'a> Walk<'a> {
         &mut self,
         cells: &Cells<'_>,
         strip: Strip<'a>,
-        turns: Snapshot<StyledTurns<'a>>,
+        turns: Snapshot<Turns<'a>>,
     ) -> Snapshot<Progress>
         requires own { self.old.seat.home ≡ cells.now }
         requires worker { self.old.seat.processor < (protocol_at self.old.seat.home).workers }
@@ -193,9 +193,9 @@ impl<'a> Walk<'a> {
 
     // An instance.
     fn work(&mut self, cells: &Cells<'_>, stop: Stop<'a>) -> Option<Leg>
-        requires ready { IsReady self.old }
+        requires ready { IsWalk self.old }
         requires own { self.old.seat.home ≡ cells.now }
-        requires next { ComesNext self.old (StyledNext.Work stop) }
+        requires next { ComesNext self.old (Next.Work stop) }
         ensures goes { GoesTo self.old self.new }
         ensures tells { TurnTells self.old self.new result }
     {
@@ -208,31 +208,31 @@ impl<'a> Walk<'a> {
 
     // The same in a phase without own scalars.
     fn work_shared(&mut self, cells: &Cells<'_>, stop: Stop<'a>) -> Option<Leg>
-        requires ready { IsReady self.old }
+        requires ready { IsWalk self.old }
         requires own { self.old.seat.home ≡ cells.now }
-        requires next { ComesNext self.old (StyledNext.Work stop) }
-        requires none { HasNoOwn (styled_tree self.old.turns) (styled_plan self.old.turns)
-            (styled_place self.old.turns) }
+        requires next { ComesNext self.old (Next.Work stop) }
+        requires none { HasNoOwn (turns_tree self.old.turns) (turns_plan self.old.turns)
+            (turns_place self.old.turns) }
         ensures goes { GoesTo self.old self.new }
         ensures tells { TurnTells self.old self.new result }
     {
         laws_of(cells);
         self.execute(cells, stop);
-        self.turns.pass(StyledNext::Work(stop));
+        self.turns.pass(Next::Work(stop));
         None
     }
 
     // And in one that may have some.
     fn work_own(&mut self, cells: &Cells<'_>, stop: Stop<'a>) -> Option<Leg>
-        requires ready { IsReady self.old }
+        requires ready { IsWalk self.old }
         requires own { self.old.seat.home ≡ cells.now }
-        requires next { ComesNext self.old (StyledNext.Work stop) }
+        requires next { ComesNext self.old (Next.Work stop) }
         ensures goes { GoesTo self.old self.new }
         ensures tells { TurnTells self.old self.new result }
     {
         laws_of(cells);
         self.execute_own(cells, stop);
-        self.turns.pass(StyledNext::Work(stop));
+        self.turns.pass(Next::Work(stop));
         None
     }
 
@@ -243,20 +243,20 @@ impl<'a> Walk<'a> {
         requires worker { self.old.seat.processor < (protocol_at self.old.seat.home).workers }
         requires can { CanExecute self.old.executor }
         requires begins { Begins (executor_tree self.old.executor)
-            (styled_rounds self.old.turns) stop
+            (turns_rounds self.old.turns) stop
             (left_shared self.old.seat self.old.seat self.old.own (walk_place self.old)) }
         requires idle { registers_behind self.old.seat (walk_place self.old) ≡ [] }
         requires output { executor_output self.old.executor
             ≡ printed_behind self.old.seat (walk_place self.old) }
         requires room { length (executor_output self.old.executor) + visit_room
             (executor_tree self.old.executor) (visit_at (executor_tree self.old.executor)
-            (styled_rounds self.old.turns) stop) ≤ executor_room self.old.executor }
+            (turns_rounds self.old.turns) stop) ≤ executor_room self.old.executor }
         ensures home { self.new.seat.home ≡ self.old.seat.home }
         ensures processor { self.new.seat.processor ≡ self.old.seat.processor }
         ensures can { CanExecute self.new.executor }
         ensures program { executor_tree self.new.executor ≡ executor_tree self.old.executor }
         ensures left { (b : Begins (executor_tree self.old.executor)
-            (styled_rounds self.old.turns) stop.entry
+            (turns_rounds self.old.turns) stop.entry
             (left_shared self.old.seat self.old.seat self.old.own (walk_place self.old)))
             → left_shared self.old.seat self.new.seat self.new.own
             (place_of self.new.seat self.old.turns + result.value.done) ≡ b.rest }
@@ -268,7 +268,7 @@ impl<'a> Walk<'a> {
         ensures room { executor_room self.old.executor ≤ executor_room self.new.executor }
         ensures grown { length (executor_output self.new.executor) ≤ length
             (executor_output self.old.executor) + visit_room (executor_tree self.old.executor)
-            (visit_at (executor_tree self.old.executor) (styled_rounds self.old.turns) stop.entry) }
+            (visit_at (executor_tree self.old.executor) (turns_rounds self.old.turns) stop.entry) }
         ensures turns { self.new.turns ≡ self.old.turns }
         ensures answered { self.new.answered ≡ self.old.answered }
         ensures legs { self.new.patience.legs ≡ self.old.patience.legs }
@@ -292,10 +292,10 @@ impl<'a> Walk<'a> {
     fn execute_own(&mut self, cells: &Cells<'_>, stop: Stop<'a>) -> Snapshot<Progress>
         requires own { self.old.seat.home ≡ cells.now }
         requires worker { self.old.seat.processor < (protocol_at self.old.seat.home).workers }
-        requires known { AreKnown self.old.seat.home self.old.turns (styled_own self.old.turns) }
+        requires known { AreKnown self.old.seat.home self.old.turns (turns_own self.old.turns) }
         requires can { CanExecute self.old.executor }
         requires begins { Begins (executor_tree self.old.executor)
-            (styled_rounds self.old.turns) stop
+            (turns_rounds self.old.turns) stop
             (left_own self.old.turns self.old.seat self.old.seat self.old.own
             (walk_place self.old)) }
         requires idle { registers_behind self.old.seat (walk_place self.old) ≡ [] }
@@ -303,13 +303,13 @@ impl<'a> Walk<'a> {
             ≡ printed_behind self.old.seat (walk_place self.old) }
         requires room { length (executor_output self.old.executor) + visit_room
             (executor_tree self.old.executor) (visit_at (executor_tree self.old.executor)
-            (styled_rounds self.old.turns) stop) ≤ executor_room self.old.executor }
+            (turns_rounds self.old.turns) stop) ≤ executor_room self.old.executor }
         ensures home { self.new.seat.home ≡ self.old.seat.home }
         ensures processor { self.new.seat.processor ≡ self.old.seat.processor }
         ensures can { CanExecute self.new.executor }
         ensures program { executor_tree self.new.executor ≡ executor_tree self.old.executor }
         ensures left { (b : Begins (executor_tree self.old.executor)
-            (styled_rounds self.old.turns) stop.entry
+            (turns_rounds self.old.turns) stop.entry
             (left_own self.old.turns self.old.seat self.old.seat self.old.own
             (walk_place self.old)))
             → left_own self.old.turns self.old.seat self.new.seat self.new.own
@@ -322,7 +322,7 @@ impl<'a> Walk<'a> {
         ensures room { executor_room self.old.executor ≤ executor_room self.new.executor }
         ensures grown { length (executor_output self.new.executor) ≤ length
             (executor_output self.old.executor) + visit_room (executor_tree self.old.executor)
-            (visit_at (executor_tree self.old.executor) (styled_rounds self.old.turns) stop.entry) }
+            (visit_at (executor_tree self.old.executor) (turns_rounds self.old.turns) stop.entry) }
         ensures turns { self.new.turns ≡ self.old.turns }
         ensures answered { self.new.answered ≡ self.old.answered }
         ensures legs { self.new.patience.legs ≡ self.old.patience.legs }
@@ -345,9 +345,9 @@ impl<'a> Walk<'a> {
 
     // A post.
     fn post(&mut self, cells: &Cells<'_>, number: u64) -> Option<Leg>
-        requires ready { IsReady self.old }
+        requires ready { IsWalk self.old }
         requires own { self.old.seat.home ≡ cells.now }
-        requires next { ComesNext self.old (StyledNext.Post number) }
+        requires next { ComesNext self.old (Next.Post number) }
         ensures goes { GoesTo self.old self.new }
         ensures tells { TurnTells self.old self.new result }
     {
@@ -360,52 +360,52 @@ impl<'a> Walk<'a> {
 
     // A post on the own counter.
     fn post_counter(&mut self, cells: &Cells<'_>, number: u64) -> Option<Leg>
-        requires ready { IsReady self.old }
+        requires ready { IsWalk self.old }
         requires own { self.old.seat.home ≡ cells.now }
-        requires next { ComesNext self.old (StyledNext.Post number) }
-        requires boundary { boundary_at (styled_tree self.old.turns)
-            (styled_plan self.old.turns) number ≡ Boundary.Counters }
+        requires next { ComesNext self.old (Next.Post number) }
+        requires boundary { boundary_at (turns_tree self.old.turns)
+            (turns_plan self.old.turns) number ≡ Boundary.Counters }
         ensures goes { GoesTo self.old self.new }
         ensures tells { TurnTells self.old self.new result }
     {
         laws_of(cells);
         cells.post(&mut self.seat, number);
-        self.turns.pass(StyledNext::Post(number));
+        self.turns.pass(Next::Post(number));
         None
     }
 
     // An arrival at a barrier.
     fn arrive(&mut self, cells: &Cells<'_>, number: u64) -> Option<Leg>
-        requires ready { IsReady self.old }
+        requires ready { IsWalk self.old }
         requires own { self.old.seat.home ≡ cells.now }
-        requires next { ComesNext self.old (StyledNext.Post number) }
-        requires boundary { boundary_at (styled_tree self.old.turns)
-            (styled_plan self.old.turns) number ≡ Boundary.Barrier }
+        requires next { ComesNext self.old (Next.Post number) }
+        requires boundary { boundary_at (turns_tree self.old.turns)
+            (turns_plan self.old.turns) number ≡ Boundary.Barrier }
         ensures goes { GoesTo self.old self.new }
         ensures tells { TurnTells self.old self.new result }
     {
         laws_of(cells);
         let phase = self.turns.phase();
         cells.arrive(&mut self.seat, phase);
-        self.turns.pass(StyledNext::Post(number));
+        self.turns.pass(Next::Post(number));
         None
     }
 
     // A post at a Join, where the leg ends if it is the first that comes to it and there are
     // others, who are awaited next.
     fn join(&mut self, cells: &Cells<'_>, number: u64) -> Option<Leg>
-        requires ready { IsReady self.old }
+        requires ready { IsWalk self.old }
         requires own { self.old.seat.home ≡ cells.now }
-        requires next { ComesNext self.old (StyledNext.Post number) }
-        requires boundary { boundary_at (styled_tree self.old.turns)
-            (styled_plan self.old.turns) number ≡ Boundary.Join }
+        requires next { ComesNext self.old (Next.Post number) }
+        requires boundary { boundary_at (turns_tree self.old.turns)
+            (turns_plan self.old.turns) number ≡ Boundary.Join }
         ensures goes { GoesTo self.old self.new }
         ensures tells { TurnTells self.old self.new result }
     {
         laws_of(cells);
         let phase = self.turns.phase();
         cells.post(&mut self.seat, number);
-        self.turns.pass(StyledNext::Post(number));
+        self.turns.pass(Next::Post(number));
         if phase <= self.answered {
             return None;
         }
@@ -418,23 +418,23 @@ impl<'a> Walk<'a> {
 
     // The own signal.
     fn signal(&mut self, cells: &Cells<'_>, number: u64) -> Option<Leg>
-        requires ready { IsReady self.old }
+        requires ready { IsWalk self.old }
         requires own { self.old.seat.home ≡ cells.now }
-        requires next { ComesNext self.old (StyledNext.Signal number) }
+        requires next { ComesNext self.old (Next.Signal number) }
         ensures goes { GoesTo self.old self.new }
         ensures tells { TurnTells self.old self.new result }
     {
         laws_of(cells);
         cells.signal(&mut self.seat, number);
-        self.turns.pass(StyledNext::Signal(number));
+        self.turns.pass(Next::Signal(number));
         None
     }
 
     // An await of a counter, or at a barrier all of them.
     fn wait(&mut self, cells: &Cells<'_>, on: u32, wanted: u64) -> Option<Leg>
-        requires ready { IsReady self.old }
+        requires ready { IsWalk self.old }
         requires own { self.old.seat.home ≡ cells.now }
-        requires next { ComesNext self.old (StyledNext.Await on wanted) }
+        requires next { ComesNext self.old (Next.Await on wanted) }
         ensures goes { GoesTo self.old self.new }
         ensures tells { TurnTells self.old self.new result }
     {
@@ -446,11 +446,11 @@ impl<'a> Walk<'a> {
 
     // Polls until the counter of another has come to a number, or patience is at its end.
     fn wait_for(&mut self, cells: &Cells<'_>, on: u32, wanted: u64) -> Option<Leg>
-        requires ready { IsReady self.old }
+        requires ready { IsWalk self.old }
         requires own { self.old.seat.home ≡ cells.now }
-        requires next { ComesNext self.old (StyledNext.Await on wanted) }
-        requires boundary { boundary_at (styled_tree self.old.turns)
-            (styled_plan self.old.turns) wanted ≢ Boundary.Barrier }
+        requires next { ComesNext self.old (Next.Await on wanted) }
+        requires boundary { boundary_at (turns_tree self.old.turns)
+            (turns_plan self.old.turns) wanted ≢ Boundary.Barrier }
         ensures goes { GoesTo self.old self.new }
         ensures tells { TurnTells self.old self.new result }
     {
@@ -458,7 +458,7 @@ impl<'a> Walk<'a> {
         match poll_until(cells, &mut self.seat, Awaited { on, wanted }, self.patience) {
             Ok(misses) => {
                 self.patience = self.patience.behind_wait(misses);
-                self.turns.pass(StyledNext::Await { on, wanted });
+                self.turns.pass(Next::Await { on, wanted });
                 None
             }
             Err(seen) => {
@@ -471,11 +471,11 @@ impl<'a> Walk<'a> {
     // Polls until all have arrived at a barrier, where this is awaited there, or patience is at its
     // end.
     fn wait_for_all(&mut self, cells: &Cells<'_>, awaited: Awaited) -> Option<Leg>
-        requires ready { IsReady self.old }
+        requires ready { IsWalk self.old }
         requires own { self.old.seat.home ≡ cells.now }
-        requires next { ComesNext self.old (StyledNext.Await awaited.on awaited.wanted) }
-        requires boundary { boundary_at (styled_tree self.old.turns)
-            (styled_plan self.old.turns) awaited.wanted ≡ Boundary.Barrier }
+        requires next { ComesNext self.old (Next.Await awaited.on awaited.wanted) }
+        requires boundary { boundary_at (turns_tree self.old.turns)
+            (turns_plan self.old.turns) awaited.wanted ≡ Boundary.Barrier }
         ensures goes { GoesTo self.old self.new }
         ensures tells { TurnTells self.old self.new result }
     {
@@ -498,9 +498,9 @@ impl<'a> Walk<'a> {
 
     // Polls until the signal of another has come to a number, or patience is at its end.
     fn wait_for_signal(&mut self, cells: &Cells<'_>, on: u32, wanted: u64) -> Option<Leg>
-        requires ready { IsReady self.old }
+        requires ready { IsWalk self.old }
         requires own { self.old.seat.home ≡ cells.now }
-        requires next { ComesNext self.old (StyledNext.AwaitSignal on wanted) }
+        requires next { ComesNext self.old (Next.AwaitSignal on wanted) }
         ensures goes { GoesTo self.old self.new }
         ensures tells { TurnTells self.old self.new result }
     {
@@ -508,7 +508,7 @@ impl<'a> Walk<'a> {
         match poll_signal_until(cells, &mut self.seat, Awaited { on, wanted }, self.patience) {
             Ok(misses) => {
                 self.patience = self.patience.behind_wait(misses);
-                self.turns.pass(StyledNext::AwaitSignal { on, wanted });
+                self.turns.pass(Next::AwaitSignal { on, wanted });
                 None
             }
             Err(seen) => {
@@ -520,9 +520,9 @@ impl<'a> Walk<'a> {
 
     // A closing: the cell that all share of an own scalar gets what the own one holds.
     fn close(&mut self, cells: &Cells<'_>, place: usize) -> Option<Leg>
-        requires ready { IsReady self.old }
+        requires ready { IsWalk self.old }
         requires own { self.old.seat.home ≡ cells.now }
-        requires next { ComesNext self.old (StyledNext.Close place) }
+        requires next { ComesNext self.old (Next.Close place) }
         ensures goes { GoesTo self.old self.new }
         ensures tells { TurnTells self.old self.new result }
     {
@@ -535,9 +535,9 @@ impl<'a> Walk<'a> {
 
     // A private scalar's last value is stored there.
     fn close_private(&mut self, cells: &Cells<'_>, place: usize) -> Option<Leg>
-        requires ready { IsReady self.old }
+        requires ready { IsWalk self.old }
         requires own { self.old.seat.home ≡ cells.now }
-        requires next { ComesNext self.old (StyledNext.Close place) }
+        requires next { ComesNext self.old (Next.Close place) }
         requires kind { nat_le 16 place ≡ false }
         ensures goes { GoesTo self.old self.new }
         ensures tells { TurnTells self.old self.new result }
@@ -545,15 +545,15 @@ impl<'a> Walk<'a> {
         laws_of(cells);
         let cell = self.turns.own_cells().cell(place);
         cells.store(&mut self.seat, cell, self.own[place]);
-        self.turns.pass(StyledNext::Close(place));
+        self.turns.pass(Next::Close(place));
         None
     }
 
     // A total is added there, and begins again with 0.
     fn close_sum(&mut self, cells: &Cells<'_>, place: usize) -> Option<Leg>
-        requires ready { IsReady self.old }
+        requires ready { IsWalk self.old }
         requires own { self.old.seat.home ≡ cells.now }
-        requires next { ComesNext self.old (StyledNext.Close place) }
+        requires next { ComesNext self.old (Next.Close place) }
         requires kind { nat_le 16 place ≡ true }
         ensures goes { GoesTo self.old self.new }
         ensures tells { TurnTells self.old self.new result }
@@ -562,7 +562,7 @@ impl<'a> Walk<'a> {
         let cell = self.turns.own_cells().cell(place);
         cells.add(&mut self.seat, cell, self.own[place]);
         self.own[place] = 0;
-        self.turns.pass(StyledNext::Close(place));
+        self.turns.pass(Next::Close(place));
         None
     }
 }

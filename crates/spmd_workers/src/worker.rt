@@ -12,14 +12,14 @@ use crate::laws::laws_of;
 use crate::patience::Patience;
 use crate::tables::Tables;
 use crate::walk::Walk;
+use instance_runs::Executor;
 use own_cells::OWN_PLACES;
 use seq_meaning::Output;
 use shared_words::{CellSeat, Cells, MainSeat};
 use spmd_ports::Gate;
-use spmd_turns::Executor;
 use std::alloc::Global;
 use std::marker::Model;
-use styled_turns::StyledTurns;
+use turns::Turns;
 
 /// Why a leg ended.
 #[derive(Clone, Copy, Debug, PartialEq, Eq)]
@@ -43,8 +43,8 @@ pub struct Worker<'a> {
 }
 
 impl<'a> Model for Worker<'a> {
-    ghost use Rattle.spmd_turns.specs.Executors.{executor_output};
-    ghost use Rattle.spmd_workers.specs.Walks.{IsReady};
+    ghost use Rattle.instance_runs.specs.Executors.{executor_output};
+    ghost use Rattle.spmd_workers.specs.Walks.{IsWalk};
     ghost use Rattle.spmd_workers.specs.Workers.{WorkerView, worker_code};
 
     ghost Value = { WorkerView };
@@ -60,7 +60,7 @@ impl<'a> Model for Worker<'a> {
           ended = w.walk.ended;
         } };
 
-    ghost invariant = { λ w. IsReady w.walk };
+    ghost invariant = { λ w. IsWalk w.walk };
 }
 
 /// There was no memory for a worker. Its seat comes back.
@@ -95,7 +95,7 @@ impl<'a> Worker<'a> {
         else {
             return Err(WorkerRefused { seat });
         };
-        let turns = StyledTurns::new(tables.program, tables.plan, tables.style, processor);
+        let turns = Turns::new(tables.program, tables.plan, tables.style, processor);
         Ok(Worker {
             walk: Walk {
                 seat,

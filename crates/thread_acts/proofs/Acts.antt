@@ -30,7 +30,7 @@ use Rattle.spmd_model.specs.Deeds.{boundary_deeds, deed_of}
 use Rattle.spmd_model.specs.Machines.{machine_by}
 use Rattle.spmd_model.specs.MachineDeeds.{deeds_by}
 use Rattle.spmd_model.proofs.Deeds.{anchored}
-use Rattle.spmd_model.proofs.MachineDeeds.{styled_deeds}
+use Rattle.spmd_model.proofs.MachineDeeds.{acts_do}
 use Rattle.spmd_model.specs.Timelines.{acts_of, counter}
 use Rattle.spmd_model.specs.declared.style.Style.TheVariants.{Arrive}
 use Rattle.spmd_model.proofs.LastStores.{last_among, split_at, stores_first}
@@ -119,4 +119,4 @@ module _ (table : Table) (tree : Tree) (plan : Plan) (p : ℕ) (turnings : AreTu
 
   -- so they are what its acts do
   pub code_acts : code_deeds tree plan p (codes_of table tree plan) ≡ map (deed_of (machine_by Arrive tree plan)) (acts_of (machine_by Arrive tree plan) p)
-  code_acts = code_does ∙ sym (styled_deeds Arrive tree plan p formed fits below)
+  code_acts = code_does ∙ sym (acts_do Arrive tree plan p formed fits below)

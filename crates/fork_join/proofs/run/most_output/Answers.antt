@@ -3,8 +3,8 @@ use Rattle.nest_tree.specs.View.{statements_from, tree_of}
 use Rattle.nest_model.specs.Visits.{visits}
 use Rattle.nest_walk.specs.Walks.{enters_but}
 use Rattle.seq_meaning.proofs.RunSteps.{written_back}
-use Rattle.spmd_turns.specs.Rooms.{AreSilent, visit_room}
-use Rattle.spmd_turns.proofs.Silent.{room_of_walk}
+use Rattle.instance_runs.specs.Rooms.{AreSilent, visit_room}
+use Rattle.instance_runs.proofs.Silent.{room_of_walk}
 use Rattle.fork_join.proofs.run.most_output.Goals as goal
 
 pub returns : goal.returns

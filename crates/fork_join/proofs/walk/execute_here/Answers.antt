@@ -1,7 +1,7 @@
 use Rattle.std.proofs.Common.{refl, sym, ◌∙◌}
 use Rattle.nest_tree.specs.View.{tree_of}
 use Rattle.nest_walk.specs.RoundsOf.{rounds_of}
-use Rattle.styled_turns.specs.StyledLeft.{styled_place, styled_rounds}
+use Rattle.turns.specs.TurnsLeft.{turns_place, turns_rounds}
 use Rattle.fork_join.proofs.Executing.{begins_own, begins_plain, executed, left_own, left_plain}
 use Rattle.fork_join.proofs.OwnSeeing.{cursor_of, few_here, none_found}
 use Rattle.fork_join.proofs.Walking.{its_below, its_phase, its_printed, its_registers, its_shared, its_within, keeps, next_here, next_room}
@@ -90,7 +90,7 @@ execute_own-requires-clause-begins c =
     let x = c.args.executor.now in
     let walks = c.requires.walks in
     let r = walks.runs in
-    let rounds = styled_rounds d.turns in
+    let rounds = turns_rounds d.turns in
     let h = next_here tree plan n p done walks.left d x c.args.stop rounds r refl c.requires.next in
     let few = few_here tree plan d (cursor_of tree plan p _ done d x r) in
     begins_own tree plan n p done walks.left d x c.args.stop rounds h r.executor few
@@ -107,7 +107,7 @@ execute_own-requires-clause-room c =
     let x = c.args.executor.now in
     let walks = c.requires.walks in
     let r = walks.runs in
-    let rounds = styled_rounds d.turns in
+    let rounds = turns_rounds d.turns in
     let h = next_here tree plan n p done walks.left d x c.args.stop rounds r refl c.requires.next in
     let few = few_here tree plan d (cursor_of tree plan p _ done d x r) in
     next_room tree plan c.requires.safe n p done walks.left d x c.args.stop rounds r (its_below o) h
@@ -124,7 +124,7 @@ returns-else-is_empty-clause-executed c =
     let x = c.args.executor.now in
     let walks = c.requires.walks in
     let r = walks.runs in
-    let rounds = styled_rounds d.turns in
+    let rounds = turns_rounds d.turns in
     let h = next_here tree plan n p done walks.left d x c.args.stop rounds r refl c.requires.next in
     let few = few_here tree plan d (cursor_of tree plan p _ done d x r) in
     let new = c.execute_own.new.overlay in
@@ -132,6 +132,6 @@ returns-else-is_empty-clause-executed c =
     let kept = went.kept in
     let within = its_within tree plan n p o.memory.now new kept in
     let b = begins_own tree plan n p done walks.left d x c.args.stop rounds h r.executor few in
-    let left = left_own tree plan n p done walks.left d x c.args.stop rounds h r.executor few new.done.done within (sym (its_phase tree plan n p o.memory.now new kept (styled_place d.turns) new.done.done refl) ∙ went.left b) in
+    let left = left_own tree plan n p done walks.left d x c.args.stop rounds h r.executor few new.done.done within (sym (its_phase tree plan n p o.memory.now new kept (turns_place d.turns) new.done.done refl) ∙ went.left b) in
     executed tree plan n p done walks.left d x c.args.stop rounds h r.executor new.done.done c.execute_own.new.executor left within (sym (its_registers tree plan n p o.memory.now new kept) ∙ went.idle) went.can (went.program ∙ r.executor)
     (went.output ∙ its_printed tree plan n p o.memory.now new kept) went.room went.grown (next_room tree plan c.requires.safe n p done walks.left d x c.args.stop rounds r (its_below o) h)

@@ -1,9 +1,9 @@
 use Rattle.std.proofs.Common.{true≢false, suc, List, ◌++◌, map, refl, sym, ◌∙◌, ap, subst}
 use Rattle.nest_tree.specs.View.{tree_of}
-use Rattle.spmd_turns.specs.Turns.{Turn, works}
-use Rattle.styled_turns.specs.declared.turns.NextOrPhase.TheVariants as Coming
-use Rattle.styled_turns.specs.declared.turns.StyledNext.{StyledNext}
-use Rattle.styled_turns.specs.declared.turns.StyledNext.TheVariants as Next
+use Rattle.turns.specs.CounterTurns.{CounterTurn, works}
+use Rattle.turns.specs.declared.turns.NextOrPhase.TheVariants as Coming
+use Rattle.turns.specs.declared.turns.Next.{Next}
+use Rattle.turns.specs.declared.turns.Next.TheVariants as Nexts
 use Rattle.fork_join.specs.Cursors.{ComesNext}
 use Rattle.fork_join.specs.Workers.{Runs, turns_behind}
 use Rattle.fork_join.proofs.Executing.{next_walks}
@@ -25,8 +25,8 @@ returns-in_default-clause-end c = λ _.
     let x = c.args.executor.now in
     let saw = c.peek.ensures in
     let seen = looked tree plan p (map works w.left ++ tail) o.done.done c.args.turns.now d x w.runs saw.sound saw.left saw.turns saw.same in
-    let none = all_done w.left tail (λ i rest e. no_instance d saw.sound c.peek.result saw.next (λ stop is. c.in_default.not-Turn (Next.Work stop) is) i rest (seen.turns ∙ e)) in
-    subst (λ (l : List Turn). Runs tree plan p l o.done.done d x) none seen
+    let none = all_done w.left tail (λ i rest e. no_instance d saw.sound c.peek.result saw.next (λ stop is. c.in_default.not-Turn (Nexts.Work stop) is) i rest (seen.turns ∙ e)) in
+    subst (λ (l : List CounterTurn). Runs tree plan p l o.done.done d x) none seen
 
 pub returns-in_default-next : goal.returns-in_default-next
 returns-in_default-next c =
@@ -41,12 +41,12 @@ returns-in_default-next c =
     let x = c.args.executor.now in
     let saw = c.peek.ensures in
     let seen = looked tree plan p (map works w.left ++ tail) o.done.done c.args.turns.now d x w.runs saw.sound saw.left saw.turns saw.same in
-    let none = all_done w.left tail (λ i rest e. no_instance d saw.sound c.peek.result saw.next (λ stop is. c.in_default-next.not-Work stop (one_turn c.peek.result c.in-Turn.next (Next.Work stop) c.in-Turn.is is)) i rest (seen.turns ∙ e)) in
+    let none = all_done w.left tail (λ i rest e. no_instance d saw.sound c.peek.result saw.next (λ stop is. c.in_default-next.not-Work stop (one_turn c.peek.result c.in-Turn.next (Nexts.Work stop) c.in-Turn.is is)) i rest (seen.turns ∙ e)) in
     record {
       kept = keeps o o refl;
       walks = record { left = w.left; runs = seen };
       nearer = λ no. absurd (true≢false (sym no));
-      end = λ _. subst (λ (l : List Turn). Runs tree plan p l o.done.done d x) none seen;
+      end = λ _. subst (λ (l : List CounterTurn). Runs tree plan p l o.done.done d x) none seen;
     }
 
 pub returns-clause-walks : goal.returns-clause-walks
@@ -62,6 +62,6 @@ returns-clause-walks c =
     let x = c.args.executor.now in
     let saw = c.peek.ensures in
     let seen = looked tree plan p (map works w.left ++ tail) o.done.done c.args.turns.now d x w.runs saw.sound saw.left saw.turns saw.same in
-    let comes = subst (ComesNext d) (c.in-Turn.is ∙ ap (λ (z : StyledNext). Coming.Turn z) c.in-Work.is) saw.next in
+    let comes = subst (ComesNext d) (c.in-Turn.is ∙ ap (λ (z : Next). Coming.Turn z) c.in-Work.is) saw.next in
     let went = c.pass.ensures in
     (next_walks tree plan n p o.done.done c.execute_here.new.overlay.done.done w.left d c.pass.new.self x c.execute_here.new.executor c.in-Work.stop seen comes c.execute_here.ensures.executed went.sound went.none went.passed went.plain went.same).0

@@ -8,14 +8,13 @@ use Rattle.sync_plan.specs.Own.{own_of}
 use Rattle.sync_plan.specs.declared.plan.Plan.{Plan}
 use Rattle.spmd_model.specs.Deeds.{instance_deeds}
 use Rattle.spmd_model.specs.MachineDeeds.{HasNoOwn, own_deeds}
-use Rattle.spmd_turns.specs.Rooms.{turn_room}
-use Rattle.spmd_turns.specs.Turns.{Turn, is_turn_inside, works}
-use Rattle.styled_turns.specs.StyledTurns.{styled_deeds}
-use Rattle.styled_turns.specs.StyledLeft.{styled_place}
+use Rattle.turns.specs.CounterTurns.{counter_room, CounterTurn, is_counter_inside, works}
+use Rattle.turns.specs.Turns.{turn_deeds}
+use Rattle.turns.specs.TurnsLeft.{turns_place}
 use Rattle.fork_join.specs.Cursors.{cursor_left, cursor_turns}
 use Rattle.fork_join.specs.Joins.{all_deeds}
 use Rattle.fork_join.specs.SeenDeeds.{shared_deed}
-use Rattle.fork_join.specs.Workers.{IsTurnThere, Runs, turns_behind}
+use Rattle.fork_join.specs.Workers.{IsCounterThere, Runs, turns_behind}
 use Rattle.fork_join.proofs.SeenDeeds.{plain_instances}
 use Rattle.fork_join.proofs.Walking.{cut_off, insides, its_printed, its_registers, its_shared, its_within, keeps, less_room, no_work_behind, runs_do, seen_exactly, theirs, went_on}
 use Rattle.fork_join.proofs.walk.repeat_next.Goals as goal
@@ -25,7 +24,7 @@ repeat-requires-clause-inside c =
     let tree = tree_of c.args.overlay.now.program.now in
     let r = c.requires.walks.runs in
     let front = strip_left c.in-Some.strip in
-    let all = insides tree front (cursor_left c.strip.new.self) (subst (λ (l : List Turn). list_all (is_turn_inside tree) l ≡ true) (sym r.turns ∙ c.in-Some.ensures.left) r.inside) in
+    let all = insides tree front (cursor_left c.strip.new.self) (subst (λ (l : List CounterTurn). list_all (is_counter_inside tree) l ≡ true) (sym r.turns ∙ c.in-Some.ensures.left) r.inside) in
     ap (λ t. list_all (is_instance_inside t) front) r.executor ∙ all.0
 
 pub repeat-requires-clause-left : goal.repeat-requires-clause-left
@@ -36,13 +35,13 @@ repeat-requires-clause-left c =
     let p = o.processor in
     let r = c.requires.walks.runs in
     let front = strip_left c.in-Some.strip in
-    let place = styled_place c.args.turns.now.turns in
+    let place = turns_place c.args.turns.now.turns in
     let later = cursor_turns c.strip.new.self in
-    let doing = flat_map (styled_deeds tree plan p) in
+    let doing = flat_map (turn_deeds tree plan p) in
     let st = c.in-Some.ensures in
     let gone : drop o.done.done (all_deeds tree plan p) ≡ flat_map (own_deeds tree (own_of tree plan place) p) front ++ doing later = r.deeds ∙ ap doing st.turns ∙ runs_do tree plan p place front later in
     let none : HasNoOwn tree plan place = subst (λ (z : Tree × Plan). HasNoOwn z.0 z.1 place) (λ i. (r.program i, r.plan_is i)) st.own in
-    let cells = theirs tree front (cursor_left c.strip.new.self) (subst (All (IsTurnThere tree)) (sym r.turns ∙ st.left) r.there) in (
+    let cells = theirs tree front (cursor_left c.strip.new.self) (subst (All (IsCounterThere tree)) (sym r.turns ∙ st.left) r.there) in (
       map (shared_deed tree) (doing later),
       ap (map (shared_deed tree)) gone ∙ plain_instances tree plan place p front (doing later) none cells.0 ∙ ap (λ t. flat_map (instance_deeds t) front ++ map (shared_deed tree) (doing later)) (sym r.executor),
     )
@@ -58,16 +57,16 @@ returns-in-Some-clause-walks c =
     let r = w.runs in
     let tail = turns_behind tree plan (suc n) p in
     let front = strip_left c.in-Some.strip in
-    let place = styled_place c.args.turns.now.turns in
+    let place = turns_place c.args.turns.now.turns in
     let d = c.strip.new.self in
     let rest = cursor_left d in
     let later = cursor_turns d in
-    let doing = flat_map (styled_deeds tree plan p) in
+    let doing = flat_map (turn_deeds tree plan p) in
     let st = c.in-Some.ensures in
     let stands = sym r.turns ∙ st.left in
     let cut = cut_off w.left front tail rest (no_work_behind tree plan p (suc n)) stands in
-    let all = insides tree front rest (subst (λ (l : List Turn). list_all (is_turn_inside tree) l ≡ true) stands r.inside) in
-    let cells = theirs tree front rest (subst (All (IsTurnThere tree)) stands r.there) in
+    let all = insides tree front rest (subst (λ (l : List CounterTurn). list_all (is_counter_inside tree) l ≡ true) stands r.inside) in
+    let cells = theirs tree front rest (subst (All (IsCounterThere tree)) stands r.there) in
     let new = c.repeat.new.deeds in
     let y = c.repeat.new.self in
     let went = c.repeat.ensures in
@@ -80,12 +79,12 @@ returns-in-Some-clause-walks c =
     ∙ ap (λ l. flat_map (instance_deeds tree) front ++ l) (its_shared tree plan n p o.memory.now new kept new.done.done refl) in
     let left = seen_exactly (shared_deed tree) (all_deeds tree plan p) (flat_map (own_deeds tree (own_of tree plan place) p) front) (doing later) (flat_map (instance_deeds tree) front) o.done.done new.done.done gone within was now in
     let out = ap (λ (l : List ℕ). length l) went.output in
-    let less = less_room (turn_room tree) (map works front) rest (map works w.left ++ tail) stands in
+    let less = less_room (counter_room tree) (map works front) rest (map works w.left ++ tail) stands in
     let fits = r.fits in
     let same_room = went.room in
     record {
       left = cut.0;
-      runs = subst (λ (l : List Turn). Runs tree plan p l new.done.done d y) cut.2
+      runs = subst (λ (l : List CounterTurn). Runs tree plan p l new.done.done d y) cut.2
           (went_on tree plan p (map works w.left ++ tail) o.done.done new.done.done c.args.turns.now d c.args.executor.now y r c.strip.ensures.sound c.strip.ensures.same
           rest refl all.1 cells.1 left within (sym (its_registers tree plan n p o.memory.now new kept) ∙ went.idle)
           went.can (went.program ∙ r.executor) (went.output ∙ r.output ∙ sym went.printed ∙ its_printed tree plan n p o.memory.now new kept)

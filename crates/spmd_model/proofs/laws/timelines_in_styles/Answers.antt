@@ -1,5 +1,5 @@
 use Rattle.spmd_model.proofs.NoOwnDeeds.{plain_deeds}
-use Rattle.spmd_model.proofs.MachineDeeds.{styled_deeds}
+use Rattle.spmd_model.proofs.MachineDeeds.{acts_do}
 use Rattle.spmd_model.proofs.MachineOrder.{all_signalled, ordered_by, sound_by}
 use Rattle.spmd_model.proofs.MachineLoads.{instance_in}
 use Rattle.spmd_model.proofs.MachineMemory.{shared_last}
@@ -13,7 +13,7 @@ pub returns-clause-ordered : goal.returns-clause-ordered
 returns-clause-ordered c = ordered_by
 
 pub returns-clause-deeds : goal.returns-clause-deeds
-returns-clause-deeds c = styled_deeds
+returns-clause-deeds c = acts_do
 
 pub returns-clause-plain : goal.returns-clause-plain
 returns-clause-plain c = plain_deeds

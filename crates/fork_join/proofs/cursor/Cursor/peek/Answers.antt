@@ -1,5 +1,5 @@
 use Rattle.std.proofs.Common.{◌∙◌, subst}
-use Rattle.styled_turns.specs.StyledLeft.{LooksPlainly}
+use Rattle.turns.specs.TurnsLeft.{LooksPlainly}
 use Rattle.fork_join.proofs.Shutting.{none_is, shut_begun}
 use Rattle.fork_join.proofs.cursor.Cursor.peek.Goals as goal
 

@@ -1,7 +1,7 @@
 use Rattle.std.proofs.Common.{◌+◌, ◌∷◌, ◌∙◌, sym, ap, drop}
 use Rattle.nest_tree.specs.View.{tree_of}
 use Rattle.spmd_model.specs.Deeds.{loading}
-use Rattle.styled_turns.specs.StyledLeft.{styled_place}
+use Rattle.turns.specs.TurnsLeft.{turns_place}
 use Rattle.fork_join.specs.Joins.{all_deeds, own_place}
 use Rattle.fork_join.proofs.OwnSeeing.{load_below, load_own_next, load_shared_next, phase_left, slot_found, small_found}
 use Rattle.fork_join.proofs.Walking.{its_phase}
@@ -14,7 +14,7 @@ load_own-requires-clause-next c =
     let tree = tree_of o.program.now in
     let plan = o.plan.now in
     let p = o.processor in
-    let place = styled_place d.turns.now.turns in
+    let place = turns_place d.turns.now.turns in
     let all = all_deeds tree plan p in
     let ds = drop o.done.done all in
     let r = c.requires in
@@ -28,7 +28,7 @@ load_own-requires-clause-small c =
     let tree = tree_of o.program.now in
     let plan = o.plan.now in
     let p = o.processor in
-    let place = styled_place d.turns.now.turns in
+    let place = turns_place d.turns.now.turns in
     let all = all_deeds tree plan p in
     let ds = drop o.done.done all in
     let r = c.requires in
@@ -42,7 +42,7 @@ load_shared-requires-clause-next c =
     let tree = tree_of o.program.now in
     let plan = o.plan.now in
     let p = o.processor in
-    let place = styled_place d.turns.now.turns in
+    let place = turns_place d.turns.now.turns in
     let all = all_deeds tree plan p in
     let ds = drop o.done.done all in
     let r = c.requires in
@@ -56,7 +56,7 @@ load_shared-requires-clause-inside c =
     let tree = tree_of o.program.now in
     let plan = o.plan.now in
     let p = o.processor in
-    let place = styled_place d.turns.now.turns in
+    let place = turns_place d.turns.now.turns in
     let all = all_deeds tree plan p in
     let ds = drop o.done.done all in
     let r = c.requires in
@@ -69,7 +69,7 @@ returns-in-Some-clause-left c =
     let tree = tree_of o.program.now in
     let plan = o.plan.now in
     let p = o.processor in
-    let place = styled_place d.turns.now.turns in
+    let place = turns_place d.turns.now.turns in
     let all = all_deeds tree plan p in
     let ds = drop o.done.done all in
     let r = c.requires in
@@ -87,7 +87,7 @@ returns-in-None-clause-left c =
     let tree = tree_of o.program.now in
     let plan = o.plan.now in
     let p = o.processor in
-    let place = styled_place d.turns.now.turns in
+    let place = turns_place d.turns.now.turns in
     let all = all_deeds tree plan p in
     let ds = drop o.done.done all in
     let r = c.requires in

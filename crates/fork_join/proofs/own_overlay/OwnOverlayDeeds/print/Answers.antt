@@ -1,7 +1,7 @@
 use Rattle.std.proofs.Common.{◌+◌, ◌∷◌, ◌∙◌, sym, ap, drop}
 use Rattle.nest_tree.specs.View.{tree_of}
 use Rattle.spmd_model.specs.Deeds.{printing}
-use Rattle.styled_turns.specs.StyledLeft.{styled_place}
+use Rattle.turns.specs.TurnsLeft.{turns_place}
 use Rattle.fork_join.specs.Joins.{all_deeds}
 use Rattle.fork_join.proofs.OwnSeeing.{phase_left, print_next}
 use Rattle.fork_join.proofs.Walking.{its_phase, its_printed}
@@ -14,7 +14,7 @@ print_line-requires c =
     let tree = tree_of o.program.now in
     let plan = o.plan.now in
     let p = o.processor in
-    let place = styled_place d.turns.now.turns in
+    let place = turns_place d.turns.now.turns in
     let all = all_deeds tree plan p in
     let ds = drop o.done.done all in
     let r = c.requires in
@@ -28,7 +28,7 @@ returns-clause-left c =
     let tree = tree_of o.program.now in
     let plan = o.plan.now in
     let p = o.processor in
-    let place = styled_place d.turns.now.turns in
+    let place = turns_place d.turns.now.turns in
     let all = all_deeds tree plan p in
     let ds = drop o.done.done all in
     let r = c.requires in

@@ -2,7 +2,7 @@ use Rattle.std.proofs.Common.{◌+◌, ◌∷◌, ◌∙◌, sym, ap, drop, rule
 use Rattle.std.proofs.lemmas.Int.{to_z-of_z}
 use Rattle.nest_tree.specs.View.{tree_of}
 use Rattle.spmd_model.specs.Deeds.{storing}
-use Rattle.styled_turns.specs.StyledLeft.{styled_place}
+use Rattle.turns.specs.TurnsLeft.{turns_place}
 use Rattle.fork_join.specs.Joins.{all_deeds, own_place}
 use Rattle.fork_join.proofs.OwnSeeing.{phase_left, slot_found, small_found, store_below, store_own_next, store_shared_next}
 use Rattle.fork_join.proofs.Walking.{its_phase}
@@ -15,7 +15,7 @@ store_own-requires-clause-next c =
     let tree = tree_of o.program.now in
     let plan = o.plan.now in
     let p = o.processor in
-    let place = styled_place d.turns.now.turns in
+    let place = turns_place d.turns.now.turns in
     let all = all_deeds tree plan p in
     let ds = drop o.done.done all in
     let r = c.requires in
@@ -30,7 +30,7 @@ store_own-requires-clause-small c =
     let tree = tree_of o.program.now in
     let plan = o.plan.now in
     let p = o.processor in
-    let place = styled_place d.turns.now.turns in
+    let place = turns_place d.turns.now.turns in
     let all = all_deeds tree plan p in
     let ds = drop o.done.done all in
     let r = c.requires in
@@ -44,7 +44,7 @@ store_shared-requires-clause-next c =
     let tree = tree_of o.program.now in
     let plan = o.plan.now in
     let p = o.processor in
-    let place = styled_place d.turns.now.turns in
+    let place = turns_place d.turns.now.turns in
     let all = all_deeds tree plan p in
     let ds = drop o.done.done all in
     let r = c.requires in
@@ -59,7 +59,7 @@ store_shared-requires-clause-inside c =
     let tree = tree_of o.program.now in
     let plan = o.plan.now in
     let p = o.processor in
-    let place = styled_place d.turns.now.turns in
+    let place = turns_place d.turns.now.turns in
     let all = all_deeds tree plan p in
     let ds = drop o.done.done all in
     let r = c.requires in
@@ -72,7 +72,7 @@ returns-in-Some-clause-left c =
     let tree = tree_of o.program.now in
     let plan = o.plan.now in
     let p = o.processor in
-    let place = styled_place d.turns.now.turns in
+    let place = turns_place d.turns.now.turns in
     let all = all_deeds tree plan p in
     let ds = drop o.done.done all in
     let r = c.requires in
@@ -92,7 +92,7 @@ returns-in-None-clause-left c =
     let tree = tree_of o.program.now in
     let plan = o.plan.now in
     let p = o.processor in
-    let place = styled_place d.turns.now.turns in
+    let place = turns_place d.turns.now.turns in
     let all = all_deeds tree plan p in
     let ds = drop o.done.done all in
     let r = c.requires in

@@ -1,6 +1,6 @@
 use Rattle.std.proofs.Common.{true≢false, sym}
 use Rattle.nest_tree.specs.View.{tree_of}
-use Rattle.styled_turns.specs.declared.turns.StyledNext.TheVariants as Next
+use Rattle.turns.specs.declared.turns.Next.TheVariants as Nexts
 use Rattle.fork_join.proofs.Closes.{seen_closing, shut_now}
 use Rattle.fork_join.proofs.Shutting.{one_turn}
 use Rattle.fork_join.proofs.worker.Worker.close_next.Goals as goal
@@ -25,5 +25,5 @@ returns-in_default-next c =
       closing = closing;
       nearer = λ no. absurd (true≢false (sym no));
       ended = λ _. shut_now tree plan c.requires.safe n p c.requires.below w.done.done d w.executor c.peek.result closing.stands.runs saw.next
-          (λ k is. c.in_default-next.not-Close k (one_turn c.peek.result c.in-Turn.next (Next.Close k) c.in-Turn.is is));
+          (λ k is. c.in_default-next.not-Close k (one_turn c.peek.result c.in-Turn.next (Nexts.Close k) c.in-Turn.is is));
     }

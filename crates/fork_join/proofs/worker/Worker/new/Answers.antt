@@ -4,11 +4,10 @@ use Rattle.nest_tree.specs.View.{tree_of}
 use Rattle.nest_walk.proofs.CellPlaces.{few_cells}
 use Rattle.owner_partition.specs.Phases.{phases}
 use Rattle.spmd_model.specs.declared.style.Style.TheVariants.{Arrive}
-use Rattle.spmd_turns.specs.Rooms.{turn_room}
-use Rattle.spmd_turns.specs.Turns.{turns_from}
-use Rattle.spmd_turns.proofs.PhaseSums.{all_inside}
-use Rattle.styled_turns.specs.StyledTurns.{first_standing, styled}
-use Rattle.styled_turns.proofs.StyledLists.{none_places}
+use Rattle.turns.specs.CounterTurns.{counter_room, counter_turns}
+use Rattle.turns.proofs.PhaseSums.{all_inside}
+use Rattle.turns.specs.Turns.{first_standing, turns_by}
+use Rattle.turns.proofs.TurnLists.{none_places}
 use Rattle.fork_join.specs.Cursors.{IsShut}
 use Rattle.fork_join.specs.Joins.{HoldsOwn, all_deeds}
 use Rattle.fork_join.specs.Workers.{Runs, turns_behind}
@@ -37,7 +36,7 @@ returns c =
       standing = first_standing;
       none = none_places;
       unseen = λ off. (refl, refl);
-      is = turns.turns ∙ λ i. styled Arrive (sym turns.program i) (sym turns.plan i) (sym turns.processor i) first_standing (sym turns.left i);
+      is = turns.turns ∙ λ i. turns_by Arrive (sym turns.program i) (sym turns.plan i) (sym turns.processor i) first_standing (sym turns.left i);
     } in
     let runs : Runs tree plan p (turns_behind tree plan 0 p) 0 d x = record {
       sound = turns.sound;
@@ -58,7 +57,7 @@ returns c =
           let below = c.requires.below in
           let some : 0 < plan.workers = omega (arith, below) in
           let most = first_room tree plan some in
-          let all = ap (λ q. sum_by (turn_room tree) (turns_from tree plan q 1 (phases tree plan.cut.marks))) first in
+          let all = ap (λ q. sum_by (counter_room tree) (counter_turns tree plan q 1 (phases tree plan.cut.marks))) first in
           let wide = c.requires.room first in
           omega (arith, none, room, most, all, wide);
     } in

@@ -1,18 +1,18 @@
 use Rattle.std.proofs.Common.{◌≡◌, ℕ, ◌⊎◌, inl, inr, sym, ◌∙◌, subst}
 use Rattle.nest_tree.specs.View.{tree_of}
 use Rattle.nest_walk.specs.declared.cursor.Stop.{Stop}
-use Rattle.styled_turns.specs.StyledLeft.{IsTurn}
-use Rattle.styled_turns.specs.declared.turns.StyledNext.{StyledNext}
-use Rattle.styled_turns.specs.declared.turns.StyledNext.TheVariants.{Post, Await, Work, Close, End}
+use Rattle.turns.specs.TurnsLeft.{IsTurn}
+use Rattle.turns.specs.declared.turns.Next.{Next}
+use Rattle.turns.specs.declared.turns.Next.TheVariants.{Post, Await, Work, Close, End}
 use Rattle.fork_join.proofs.Beginning.{only_waits, passed_beginning}
 use Rattle.fork_join.proofs.Turning.{waits_next}
 use Rattle.fork_join.proofs.worker.Worker.pass_wait.Goals as goal
 
-some_turn : (next : StyledNext) → ((x : ℕ) × (next ≡ Post x)) ⊎ ((x : ℕ) × (y : ℕ) × (next ≡ Await x y)) → IsTurn next
+some_turn : (next : Next) → ((x : ℕ) × (next ≡ Post x)) ⊎ ((x : ℕ) × (y : ℕ) × (next ≡ Await x y)) → IsTurn next
 some_turn next (inl (x, e)) = subst IsTurn (sym e) tt
 some_turn next (inr (x, y, e)) = subst IsTurn (sym e) tt
 
-no_wait : (next : StyledNext) → ((stop : Stop) × (next ≡ Work stop)) ⊎ (((k : ℕ) × (next ≡ Close k)) ⊎ (next ≡ End)) → ((x : ℕ) × (next ≡ Post x)) ⊎ ((x : ℕ) × (y : ℕ) × (next ≡ Await x y)) → ⊥
+no_wait : (next : Next) → ((stop : Stop) × (next ≡ Work stop)) ⊎ (((k : ℕ) × (next ≡ Close k)) ⊎ (next ≡ End)) → ((x : ℕ) × (next ≡ Post x)) ⊎ ((x : ℕ) × (y : ℕ) × (next ≡ Await x y)) → ⊥
 no_wait next (inl (stop, e)) (inl (x, is)) = let clash : Work stop ≡ Post x = sym e ∙ is in cc
 no_wait next (inl (stop, e)) (inr (x, y, is)) = let clash : Work stop ≡ Await x y = sym e ∙ is in cc
 no_wait next (inr (inl (k, e))) (inl (x, is)) = let clash : Close k ≡ Post x = sym e ∙ is in cc

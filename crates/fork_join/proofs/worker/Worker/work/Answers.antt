@@ -1,7 +1,7 @@
 use mathlib.Core.Logic.{∥∥₁_map}
 use Rattle.std.proofs.Common.{refl, sym, subst}
 use Rattle.nest_tree.specs.View.{tree_of}
-use Rattle.spmd_turns.specs.declared.progress.Progress.{Progress}
+use Rattle.instance_runs.specs.declared.progress.Progress.{Progress}
 use Rattle.fork_join.specs.Joins.{IsAlone}
 use Rattle.fork_join.specs.StoreLists.{AreKept, cells_of, entries_of}
 use Rattle.fork_join.specs.declared.stores.Stores.{Stores}

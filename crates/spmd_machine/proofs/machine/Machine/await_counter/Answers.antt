@@ -3,7 +3,7 @@ use Rattle.std.proofs.lemmas.Bool.{le-leb, lt-leb}
 use Rattle.nest_walk.specs.Tables.{entries}
 use Rattle.spmd_model.specs.Deeds.{awaiting}
 use Rattle.spmd_model.specs.Timelines.{counter}
-use Rattle.styled_turns.specs.declared.turns.StyledNext.TheVariants.{Await}
+use Rattle.turns.specs.declared.turns.Next.TheVariants.{Await}
 use Rattle.spmd_machine.specs.Machines.{plan_in, shown, style_in, tree_in}
 use Rattle.spmd_machine.proofs.Awaited.{await_left, awaits_processor, behind_it, counter_read}
 use Rattle.spmd_machine.proofs.Kept.{picked}

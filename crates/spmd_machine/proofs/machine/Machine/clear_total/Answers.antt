@@ -1,5 +1,5 @@
 use Rattle.std.proofs.Common.{refl, ap, ◌∙◌}
-use Rattle.styled_turns.specs.declared.turns.StyledNext.TheVariants.{Close}
+use Rattle.turns.specs.declared.turns.Next.TheVariants.{Close}
 use Rattle.spmd_machine.specs.declared.processor.Processor.{Processor}
 use Rattle.spmd_machine.proofs.Closings.{is_sum, total_cleared}
 use Rattle.spmd_machine.proofs.Kept.{passed_from}

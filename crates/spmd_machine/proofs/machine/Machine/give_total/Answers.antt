@@ -6,7 +6,7 @@ use Rattle.nest_model.specs.Memory.{cell_value}
 use Rattle.own_cells.specs.OwnCells.{shared_cell}
 use Rattle.own_cells.specs.declared.cells.OwnCells.{OwnCells}
 use Rattle.spmd_model.specs.Cells.{plus}
-use Rattle.styled_turns.specs.declared.turns.StyledNext.TheVariants.{Close}
+use Rattle.turns.specs.declared.turns.Next.TheVariants.{Close}
 use Rattle.spmd_machine.specs.declared.processor.Processor.{Processor}
 use Rattle.spmd_machine.proofs.Closings.{closing_begun, one_item, one_loaded, to, to_below, to_is, to_there, total_added, total_kept}
 use Rattle.spmd_machine.proofs.Ready.{kept_here, next_here}

@@ -4,13 +4,13 @@ use Rattle.std.proofs.lemmas.Int.{to_z-of_z}
 use Rattle.std.proofs.lemmas.List.{get_or_default}
 use Rattle.nest_model.specs.Memory.{cell_value}
 use Rattle.nest_model.specs.Accesses.{loads_of}
-use Rattle.spmd_turns.specs.TurnsLeft.{turns_path, turns_tree}
+use Rattle.turns.specs.CountersLeft.{counters_path, counters_tree}
 use Rattle.spmd_machine.proofs.Kept.{picked}
 use Rattle.spmd_machine.proofs.Ready.{next_here}
 use Rattle.spmd_machine.proofs.LastSteps.{cells_there}
 use Rattle.spmd_machine.proofs.LoadSteps.{at_load, at_load-instance, few_here, inside, inst, load_steps, loads_own, no_overflow, room_left, slot_here}
 use Rattle.spmd_machine.proofs.OwnAccess.{read_by, slot_small}
-use Rattle.styled_turns.specs.declared.turns.StyledNext.TheVariants.{Work}
+use Rattle.turns.specs.declared.turns.Next.TheVariants.{Work}
 use Rattle.spmd_machine.specs.Machines.{plan_in, tree_in}
 use Rattle.spmd_machine.specs.declared.processor.Processor.{Processor}
 use Rattle.spmd_machine.proofs.machine.Machine.load.Goals as goal
@@ -53,12 +53,12 @@ advance-requires c =
     let x = c.index_mut-processor.result.now in
     let read = c.index_mut-processor.ensures.value in
     let here = inst m c.requires.ready c.args.p x c.requires.worker read c.args.stop c.requires.next in (
-      turns_tree x.turns.turns,
-      turns_path x.turns.turns,
+      counters_tree x.turns.counters,
+      counters_path x.turns.counters,
       x.done,
       c.args.spot.cell,
-      at_load m c.requires.ready c.args.p x c.requires.worker read c.args.stop c.requires.next (turns_path x.turns.turns) refl here,
-      ap (λ i. slice_get (loads_of (turns_tree x.turns.turns) i) x.done) (at_load-instance m c.requires.ready c.args.p x c.requires.worker read c.args.stop c.requires.next (turns_path x.turns.turns) refl here)
+      at_load m c.requires.ready c.args.p x c.requires.worker read c.args.stop c.requires.next (counters_path x.turns.counters) refl here,
+      ap (λ i. slice_get (loads_of (counters_tree x.turns.counters) i) x.done) (at_load-instance m c.requires.ready c.args.p x c.requires.worker read c.args.stop c.requires.next (counters_path x.turns.counters) refl here)
           ∙ loads_own m c.requires.ready c.args.p x c.requires.worker read c.args.stop c.requires.next (Some c.args.spot.cell) c.requires.left here,
     )
 
@@ -90,6 +90,6 @@ returns c =
     ] in
     let pushed = c.push.ensures.items ∙ ap (λ b. if b then x.registers.items ++ to_z w64 c.match-spot.value-bits ∷ [] else x.registers.items) (c.push.ensures.succeeds (omega (arith, left)))
     ∙ ap (λ v. x.registers.items ++ v ∷ []) value in
-    let now = c.advance.ensures (turns_tree x.turns.turns) (turns_path x.turns.turns) x.done (at_load m ready c.args.p x c.requires.worker read c.args.stop c.requires.next (turns_path x.turns.turns) refl here) in
+    let now = c.advance.ensures (counters_tree x.turns.counters) (counters_path x.turns.counters) x.done (at_load m ready c.args.p x c.requires.worker read c.args.stop c.requires.next (counters_path x.turns.counters) refl here) in
     load_steps m ready c.args.p x c.requires.worker read c.args.stop c.requires.next cells at c.args.spot.cell c.requires.left y c.args.spot.own slot
     (record { turns = refl; instance = next_here m ready c.args.p x x c.requires.worker read (Work c.args.stop) c.requires.next; pushed = pushed; capacity = c.push.ensures.capacity; done = omega arith; loading_next = now.loading cells at; counter = refl; signal = refl; own_cells = refl })

@@ -16,10 +16,10 @@ use Rattle.seq_meaning.proofs.RunSteps.{written_back}
 use Rattle.sync_plan.specs.declared.plan.Plan.{Plan}
 use Rattle.spmd_model.specs.Quiet.{quiet_next}
 use Rattle.spmd_model.proofs.Quiet.{none_quiet_next}
-use Rattle.spmd_turns.specs.Rooms.{AreSilent, longest_output, visit_room}
-use Rattle.spmd_turns.specs.Loads.{widths}
-use Rattle.spmd_turns.proofs.Silent.{room_of_walk}
-use Rattle.spmd_turns.proofs.TableLoads.{table_wide}
+use Rattle.instance_runs.specs.Rooms.{AreSilent, longest_output, visit_room}
+use Rattle.instance_runs.specs.Loads.{widths}
+use Rattle.instance_runs.proofs.Silent.{room_of_walk}
+use Rattle.instance_runs.proofs.TableLoads.{table_wide}
 use Rattle.spmd_machine.specs.Machines.{model_of, shared_in, shown}
 use Rattle.spmd_machine.specs.declared.machine.Machine.{Machine}
 use Rattle.spmd_machine.proofs.Settling.{settled_first}

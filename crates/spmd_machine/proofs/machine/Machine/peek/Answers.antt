@@ -1,7 +1,7 @@
 use Rattle.std.proofs.Common.{ap, sym, subst}
 use Rattle.std.proofs.lemmas.List.{get_or-set_same}
 use Rattle.nest_walk.specs.Tables.{entries}
-use Rattle.styled_turns.specs.StyledLeft.{IsStyledNext}
+use Rattle.turns.specs.TurnsLeft.{IsNext}
 use Rattle.spmd_machine.specs.Machines.{plan_in, style_in, tree_in}
 use Rattle.spmd_machine.specs.declared.processor.Processor.{Processor}
 use Rattle.spmd_machine.proofs.Kept.{look_kept, look_left, same_room}
@@ -36,7 +36,7 @@ returns-clause-ready c =
 pub returns-clause-next : goal.returns-clause-next
 returns-clause-next c = λ d.
     let m = c.args.self.now in
-    subst (λ (z : Processor). IsStyledNext z.turns c.peek.result) (sym (get_or-set_same m.processors.items c.args.p c.peek.new.self d c.requires.worker)) c.peek.ensures.next
+    subst (λ (z : Processor). IsNext z.turns c.peek.result) (sym (get_or-set_same m.processors.items c.args.p c.peek.new.self d c.requires.worker)) c.peek.ensures.next
 
 pub returns-clause-state : goal.returns-clause-state
 returns-clause-state c =

@@ -1,5 +1,5 @@
 use Rattle.std.proofs.Common.{refl}
-use Rattle.styled_turns.specs.declared.turns.StyledNext.TheVariants.{Post}
+use Rattle.turns.specs.declared.turns.Next.TheVariants.{Post}
 use Rattle.spmd_machine.specs.declared.processor.Processor.{Processor}
 use Rattle.spmd_machine.proofs.Kept.{passed_from}
 use Rattle.spmd_machine.proofs.Ready.{kept_here, next_here}

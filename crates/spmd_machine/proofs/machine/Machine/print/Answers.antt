@@ -10,7 +10,7 @@ use Rattle.nest_walk.specs.RoundsOf.{rounds_of}
 use Rattle.seq_meaning.proofs.RunSteps.{written_back}
 use Rattle.spmd_machine.proofs.LastSteps.{cells_there, numbers_there, print_fits, print_loads, print_steps, print_texts}
 use Rattle.spmd_machine.proofs.Ready.{kept_here, next_here}
-use Rattle.styled_turns.specs.declared.turns.StyledNext.TheVariants.{Work}
+use Rattle.turns.specs.declared.turns.Next.TheVariants.{Work}
 use Rattle.spmd_machine.proofs.machine.Machine.print.Goals as goal
 
 pub write_to-requires : goal.write_to-requires

@@ -1,5 +1,5 @@
 use Rattle.std.proofs.Common.{sym, ◌∙◌, ap}
-use Rattle.styled_turns.specs.StyledTurns.{has_own}
+use Rattle.turns.specs.Turns.{has_own}
 use Rattle.spmd_machine.proofs.NoneQuiet.{settled_without}
 use Rattle.spmd_machine.proofs.Ready.{kept_here}
 use Rattle.spmd_machine.proofs.machine.Machine.settle.Goals as goal

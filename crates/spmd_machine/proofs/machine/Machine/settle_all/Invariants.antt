@@ -1,12 +1,12 @@
 use Rattle.std.proofs.Common.{◌≡◌, fold}
 use Rattle.std.specs.List.{range_with_len}
 use Rattle.spmd_model.specs.Quiet.{past_quiet}
-use Rattle.spmd_machine.specs.Machines.{IsReady, IsSameMachine, model_of, shared_in, shown}
+use Rattle.spmd_machine.specs.Machines.{IsMachine, IsSameMachine, model_of, shared_in, shown}
 use Rattle.spmd_machine.proofs.machine.Machine.settle_all.Given as goal
 
 abbrev pub invariant-loop-p : goal.invariant-loop-p
 invariant-loop-p l = record {
-  ready : IsReady l.self;
+  ready : IsMachine l.self;
   same : IsSameMachine l.initial.self l.self;
   state : shown l.self ≡ fold (past_quiet (model_of l.initial.self) (shared_in l.initial.self)) (shown l.initial.self) (range_with_len 0 l.p);
 }

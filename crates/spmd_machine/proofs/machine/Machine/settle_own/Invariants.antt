@@ -1,11 +1,11 @@
 use Rattle.std.proofs.Common.{◌≡◌}
 use Rattle.spmd_model.specs.Quiet.{past_quiet, quiet_next}
-use Rattle.spmd_machine.specs.Machines.{IsReady, IsSameMachine, model_of, shared_in, shown}
+use Rattle.spmd_machine.specs.Machines.{IsMachine, IsSameMachine, model_of, shared_in, shown}
 use Rattle.spmd_machine.proofs.machine.Machine.settle_own.Given as goal
 
 abbrev pub invariant-loop : goal.invariant-loop
 invariant-loop l = record {
-  ready : IsReady l.self;
+  ready : IsMachine l.self;
   same : IsSameMachine l.initial.self l.self;
   state : past_quiet (model_of l.initial.self) (shared_in l.initial.self) (shown l.self) l.p ≡ past_quiet (model_of l.initial.self) (shared_in l.initial.self) (shown l.initial.self) l.p;
 }

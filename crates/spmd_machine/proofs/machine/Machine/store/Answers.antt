@@ -8,11 +8,11 @@ use Rattle.nest_walk.specs.ByNumber.{with_rounds}
 use Rattle.nest_walk.specs.Paths.{Round}
 use Rattle.nest_walk.specs.RoundsOf.{rounds_of}
 use Rattle.seq_meaning.proofs.RunSteps.{written_back}
-use Rattle.styled_turns.specs.StyledLeft.{AreStyled, IsStyledNext}
+use Rattle.turns.specs.TurnsLeft.{AreSound, IsNext}
 use Rattle.spmd_machine.specs.Machines.{plan_in, tree_in}
 use Rattle.spmd_machine.specs.declared.answer.StepAnswer.TheVariants.{Stepped}
 use Rattle.spmd_machine.specs.declared.processor.Processor.{Processor}
-use Rattle.styled_turns.specs.declared.turns.StyledNext.TheVariants.{Work}
+use Rattle.turns.specs.declared.turns.Next.TheVariants.{Work}
 use Rattle.spmd_machine.proofs.Kept.{passed_from}
 use Rattle.spmd_machine.proofs.LastSteps.{cells_there, code_fits, code_high, code_low, numbers_there, store_code, store_loads, store_steps, store_valued, stored_below}
 use Rattle.spmd_machine.proofs.LoadSteps.{few_here, slot_here, stores_here}
@@ -116,8 +116,8 @@ finish-requires-clause-sound c =
     let x = c.index_mut-processor.result.now in
     let sound = (kept_here c.args.self.now c.requires.ready c.args.p x x c.requires.worker c.index_mut-processor.ensures.value).sound in
     elim c.match-spot.branch [
-      | in-Some w ↦ subst (λ (z : Processor). AreStyled z.turns) (sym w.processor-is) sound
-      | in-None w ↦ subst (λ (z : Processor). AreStyled z.turns) (sym w.processor-is) sound
+      | in-Some w ↦ subst (λ (z : Processor). AreSound z.turns) (sym w.processor-is) sound
+      | in-None w ↦ subst (λ (z : Processor). AreSound z.turns) (sym w.processor-is) sound
     ]
 
 pub finish-requires-clause-next : goal.finish-requires-clause-next
@@ -125,8 +125,8 @@ finish-requires-clause-next c =
     let x = c.index_mut-processor.result.now in
     let next = next_here c.args.self.now c.requires.ready c.args.p x x c.requires.worker c.index_mut-processor.ensures.value (Work c.args.stop) c.requires.next in
     elim c.match-spot.branch [
-      | in-Some w ↦ subst (λ (z : Processor). IsStyledNext z.turns (Work c.args.stop)) (sym w.processor-is) next
-      | in-None w ↦ subst (λ (z : Processor). IsStyledNext z.turns (Work c.args.stop)) (sym w.processor-is) next
+      | in-Some w ↦ subst (λ (z : Processor). IsNext z.turns (Work c.args.stop)) (sym w.processor-is) next
+      | in-None w ↦ subst (λ (z : Processor). IsNext z.turns (Work c.args.stop)) (sym w.processor-is) next
     ]
 
 pub returns : goal.returns

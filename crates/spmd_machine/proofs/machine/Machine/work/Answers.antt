@@ -1,5 +1,5 @@
 use Rattle.std.proofs.Common.{Some, subst, sym}
-use Rattle.spmd_turns.specs.TurnsLeft.{turns_tree}
+use Rattle.turns.specs.CountersLeft.{counters_tree}
 use Rattle.spmd_machine.specs.Machines.{LoadsNext}
 use Rattle.spmd_machine.proofs.LastSteps.{cells_there}
 use Rattle.spmd_machine.proofs.LoadSteps.{at_load, cell_here, inside, inst, loads_next, spot_next}
@@ -11,7 +11,7 @@ cell-requires c =
     let m = c.args.self.now in
     let x = c.index-processor.result.now in
     let read = c.index-processor.ensures in
-    (turns_tree x.turns.turns, x.done, at_load m c.requires.ready c.args.p x c.requires.worker read c.args.stop c.requires.next c.path-path.result.now c.path-path.ensures (inst m c.requires.ready c.args.p x c.requires.worker read c.args.stop c.requires.next))
+    (counters_tree x.turns.counters, x.done, at_load m c.requires.ready c.args.p x c.requires.worker read c.args.stop c.requires.next c.path-path.result.now c.path-path.ensures (inst m c.requires.ready c.args.p x c.requires.worker read c.args.stop c.requires.next))
 
 pub spot-spot-requires-clause-sound : goal.spot-spot-requires-clause-sound
 spot-spot-requires-clause-sound c = (kept_here c.args.self.now c.requires.ready c.args.p c.index-processor.result.now c.index-processor.result.now c.requires.worker c.index-processor.ensures).sound

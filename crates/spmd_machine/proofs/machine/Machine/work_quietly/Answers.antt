@@ -1,5 +1,5 @@
 use Rattle.std.proofs.Common.{subst}
-use Rattle.spmd_turns.specs.TurnsLeft.{turns_tree}
+use Rattle.turns.specs.CountersLeft.{counters_tree}
 use Rattle.spmd_machine.specs.Machines.{LoadsNext}
 use Rattle.spmd_machine.proofs.LoadSteps.{at_load, inst, loads_next}
 use Rattle.spmd_machine.proofs.machine.Machine.work_quietly.Goals as goal
@@ -9,7 +9,7 @@ cell-requires c =
     let m = c.args.self.now in
     let x = c.index-processor.result.now in
     let read = c.index-processor.ensures in
-    (turns_tree x.turns.turns, x.done, at_load m c.requires.ready c.args.p x c.requires.worker read c.args.stop c.requires.next c.path-path.result.now c.path-path.ensures (inst m c.requires.ready c.args.p x c.requires.worker read c.args.stop c.requires.next))
+    (counters_tree x.turns.counters, x.done, at_load m c.requires.ready c.args.p x c.requires.worker read c.args.stop c.requires.next c.path-path.result.now c.path-path.ensures (inst m c.requires.ready c.args.p x c.requires.worker read c.args.stop c.requires.next))
 
 pub load_quietly-requires-clause-left : goal.load_quietly-requires-clause-left
 load_quietly-requires-clause-left c =

@@ -1,5 +1,5 @@
 use Rattle.std.proofs.Common.{refl, subst, sym}
-use Rattle.styled_turns.specs.StyledLeft.{IsStyledNext}
+use Rattle.turns.specs.TurnsLeft.{IsNext}
 use Rattle.spmd_machine.specs.Processors.{IsFoundNext}
 use Rattle.spmd_machine.proofs.processor.Processor.peek.Goals as goal
 
@@ -24,7 +24,7 @@ returns-in_default-next-clause-looks c = record {
 pub returns-clause-looks : goal.returns-clause-looks
 returns-clause-looks c = record {
   sound = c.peek-next.ensures.sound;
-  instance = subst (IsStyledNext c.peek-next.new.self) c.in-Work.is c.peek-next.ensures.next;
+  instance = subst (IsNext c.peek-next.new.self) c.in-Work.is c.peek-next.ensures.next;
   left = c.peek-next.ensures.left;
   same = c.peek-next.ensures.same;
   others = refl;

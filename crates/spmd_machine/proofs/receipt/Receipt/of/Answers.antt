@@ -6,17 +6,17 @@ use Rattle.nest_tree.specs.declared.tree.Program.{Program}
 use Rattle.sync_plan.specs.declared.plan.Plan.{Plan}
 use Rattle.spmd_model.specs.States.{IsEnded, State}
 use Rattle.spmd_machine.specs.Ends.{HasRun}
-use Rattle.spmd_machine.specs.Machines.{IsReady, model_of, plan_in, shared_in, shown, style_in, tree_in}
+use Rattle.spmd_machine.specs.Machines.{IsMachine, model_of, plan_in, shared_in, shown, style_in, tree_in}
 use Rattle.spmd_machine.specs.declared.machine.Machine.{Machine}
 use Rattle.spmd_machine.specs.declared.processor.Processor.{Processor}
 use Rattle.spmd_machine.proofs.Sequential.{memory_at_end}
 use Rattle.spmd_machine.proofs.receipt.Receipt.of.Goals as goal
 
-shared_memory : (m : Machine) → IsReady m → m.memory.items ≡ take (shared_in m) (shown m).memory
+shared_memory : (m : Machine) → IsMachine m → m.memory.items ≡ take (shared_in m) (shown m).memory
 unfolding shown
 shared_memory m ready = sym (take_at m.memory.items (flat_map (λ (x : Processor). x.own) m.processors.items) (shared_in m) ready.cells)
 
-has_run : (m : Machine) (program : Program) (plan : Plan) → IsReady m → IsEnded (model_of m) (shown m) → program ≡ m.program.now → plan ≡ m.plan.now → HasRun (record { program = program; plan = plan; style = m.style; memory = m.memory.items })
+has_run : (m : Machine) (program : Program) (plan : Plan) → IsMachine m → IsEnded (model_of m) (shown m) → program ≡ m.program.now → plan ≡ m.plan.now → HasRun (record { program = program; plan = plan; style = m.style; memory = m.memory.items })
 has_run m program plan ready ended p q =
     let run : HasRun (record { program = m.program.now; plan = m.plan.now; style = m.style; memory = m.memory.items }) = record {
       schedule = ready.reached.schedule;

@@ -1,7 +1,7 @@
 use Rattle.std.proofs.Common.{◌+◌, ◌++◌, [], ◌∷◌, w64, FitsSigned, get_or, pos, sym, ap, ◌∙◌, subst, arith, rules}
 use Rattle.std.proofs.lemmas.Int.{to_z-of_z}
 use Rattle.spmd_model.specs.Deeds.{loading}
-use Rattle.styled_turns.specs.StyledLeft.{styled_place}
+use Rattle.turns.specs.TurnsLeft.{turns_place}
 use Rattle.spmd_workers.specs.Held.{AreHeld}
 use Rattle.fork_join.specs.SeenDeeds.{phase_deed}
 use Rattle.spmd_workers.specs.Places.{left_own, place_of, plan_at, printed_behind, registers_behind, tree_at}
@@ -15,7 +15,7 @@ load-value-requires-clause-next c =
     let v = d.seat.now in
     let n = place_of v d.turns.now.value + d.done.done in
     let held : AreHeld v.home = subst AreHeld (sym d.same_table) c.laws_of.ensures in
-    let f = phase_deed (tree_at v.home) (plan_at v.home) (styled_place d.turns.now.value) v.processor in
+    let f = phase_deed (tree_at v.home) (plan_at v.home) (turns_place d.turns.now.value) v.processor in
     let at = its_slot v.home d.turns.now.value d.scalars.now d.known c.args.cell c.place_of.result c.place_of.ensures in
     let l = loads_shared f d.from.now.value v held d.worker d.own.now n c.args.cell c.requires.0 c.requires.1 (shared_back v.home d.turns.now.value v.processor c.args.cell c.place_of.result at c.in_default.is) in
     l.next
@@ -26,7 +26,7 @@ returns-in_default-clause-left c =
     let v = d.seat.now in
     let n = place_of v d.turns.now.value + d.done.done in
     let held : AreHeld v.home = subst AreHeld (sym d.same_table) c.laws_of.ensures in
-    let f = phase_deed (tree_at v.home) (plan_at v.home) (styled_place d.turns.now.value) v.processor in
+    let f = phase_deed (tree_at v.home) (plan_at v.home) (turns_place d.turns.now.value) v.processor in
     let at = its_slot v.home d.turns.now.value d.scalars.now d.known c.args.cell c.place_of.result c.place_of.ensures in
     let l = loads_shared f d.from.now.value v held d.worker d.own.now n c.args.cell c.requires.0 c.requires.1 (shared_back v.home d.turns.now.value v.processor c.args.cell c.place_of.result at c.in_default.is) in
     let moved = further_on (λ u k. left_own d.turns.now.value d.from.now.value u d.own.now k) v c.load-value.new.seat d.turns.now.value d.done.done c.further-self.result.done c.load-value.ensures.goes c.further-self.ensures in
@@ -38,7 +38,7 @@ returns-in_default-clause-registers c =
     let v = d.seat.now in
     let n = place_of v d.turns.now.value + d.done.done in
     let held : AreHeld v.home = subst AreHeld (sym d.same_table) c.laws_of.ensures in
-    let f = phase_deed (tree_at v.home) (plan_at v.home) (styled_place d.turns.now.value) v.processor in
+    let f = phase_deed (tree_at v.home) (plan_at v.home) (turns_place d.turns.now.value) v.processor in
     let at = its_slot v.home d.turns.now.value d.scalars.now d.known c.args.cell c.place_of.result c.place_of.ensures in
     let l = loads_shared f d.from.now.value v held d.worker d.own.now n c.args.cell c.requires.0 c.requires.1 (shared_back v.home d.turns.now.value v.processor c.args.cell c.place_of.result at c.in_default.is) in
     let fits : FitsSigned w64 c.load-value.result = search rules in
@@ -51,7 +51,7 @@ returns-in_default-clause-printed c =
     let v = d.seat.now in
     let n = place_of v d.turns.now.value + d.done.done in
     let held : AreHeld v.home = subst AreHeld (sym d.same_table) c.laws_of.ensures in
-    let f = phase_deed (tree_at v.home) (plan_at v.home) (styled_place d.turns.now.value) v.processor in
+    let f = phase_deed (tree_at v.home) (plan_at v.home) (turns_place d.turns.now.value) v.processor in
     let at = its_slot v.home d.turns.now.value d.scalars.now d.known c.args.cell c.place_of.result c.place_of.ensures in
     let l = loads_shared f d.from.now.value v held d.worker d.own.now n c.args.cell c.requires.0 c.requires.1 (shared_back v.home d.turns.now.value v.processor c.args.cell c.place_of.result at c.in_default.is) in
     further_on printed_behind v c.load-value.new.seat d.turns.now.value d.done.done c.further-self.result.done c.load-value.ensures.goes c.further-self.ensures ∙ l.printed
@@ -62,7 +62,7 @@ returns-clause-left c =
     let v = d.seat.now in
     let n = place_of v d.turns.now.value + d.done.done in
     let held : AreHeld v.home = subst AreHeld (sym d.same_table) c.laws_of.ensures in
-    let f = phase_deed (tree_at v.home) (plan_at v.home) (styled_place d.turns.now.value) v.processor in
+    let f = phase_deed (tree_at v.home) (plan_at v.home) (turns_place d.turns.now.value) v.processor in
     let at = its_slot v.home d.turns.now.value d.scalars.now d.known c.args.cell c.place_of.result c.place_of.ensures in
     let small = its_small v.home d.turns.now.value d.scalars.now d.known c.args.cell c.place_of.result at c.in-Some.place c.in-Some.is in
     let l = loads_own f d.from.now.value v held d.worker d.own.now n c.args.cell c.in-Some.place c.requires.0 small c.requires.1 (own_back v.home d.turns.now.value v.processor c.args.cell c.place_of.result at c.in-Some.place c.in-Some.is) in
@@ -74,7 +74,7 @@ returns-clause-registers c =
     let v = d.seat.now in
     let n = place_of v d.turns.now.value + d.done.done in
     let held : AreHeld v.home = subst AreHeld (sym d.same_table) c.laws_of.ensures in
-    let f = phase_deed (tree_at v.home) (plan_at v.home) (styled_place d.turns.now.value) v.processor in
+    let f = phase_deed (tree_at v.home) (plan_at v.home) (turns_place d.turns.now.value) v.processor in
     let at = its_slot v.home d.turns.now.value d.scalars.now d.known c.args.cell c.place_of.result c.place_of.ensures in
     let small = its_small v.home d.turns.now.value d.scalars.now d.known c.args.cell c.place_of.result at c.in-Some.place c.in-Some.is in
     let l = loads_own f d.from.now.value v held d.worker d.own.now n c.args.cell c.in-Some.place c.requires.0 small c.requires.1 (own_back v.home d.turns.now.value v.processor c.args.cell c.place_of.result at c.in-Some.place c.in-Some.is) in
@@ -88,7 +88,7 @@ returns-clause-printed c =
     let v = d.seat.now in
     let n = place_of v d.turns.now.value + d.done.done in
     let held : AreHeld v.home = subst AreHeld (sym d.same_table) c.laws_of.ensures in
-    let f = phase_deed (tree_at v.home) (plan_at v.home) (styled_place d.turns.now.value) v.processor in
+    let f = phase_deed (tree_at v.home) (plan_at v.home) (turns_place d.turns.now.value) v.processor in
     let at = its_slot v.home d.turns.now.value d.scalars.now d.known c.args.cell c.place_of.result c.place_of.ensures in
     let small = its_small v.home d.turns.now.value d.scalars.now d.known c.args.cell c.place_of.result at c.in-Some.place c.in-Some.is in
     let l = loads_own f d.from.now.value v held d.worker d.own.now n c.args.cell c.in-Some.place c.requires.0 small c.requires.1 (own_back v.home d.turns.now.value v.processor c.args.cell c.place_of.result at c.in-Some.place c.in-Some.is) in

@@ -1,5 +1,5 @@
 use Rattle.std.proofs.Common.{◌+◌, ◌∷◌, sym, ap, ◌∙◌, subst}
-use Rattle.styled_turns.specs.StyledLeft.{styled_place}
+use Rattle.turns.specs.TurnsLeft.{turns_place}
 use Rattle.spmd_model.specs.Deeds.{printing}
 use Rattle.spmd_workers.specs.Held.{AreHeld}
 use Rattle.fork_join.specs.SeenDeeds.{phase_deed}
@@ -16,7 +16,7 @@ returns-clause-left c =
     let n = place_of v d.turns.now.value + d.done.done in
     let held : AreHeld v.home = subst AreHeld (sym d.same_table) c.laws_of.ensures in
     let (line, rest, is) = c.requires in
-    let r = prints (phase_deed (tree_at v.home) (plan_at v.home) (styled_place d.turns.now.value) v.processor) d.from.now.value v held d.worker d.own.now n line rest is (own_print (tree_at v.home) (plan_at v.home) (styled_place d.turns.now.value) v.processor line) in
+    let r = prints (phase_deed (tree_at v.home) (plan_at v.home) (turns_place d.turns.now.value) v.processor) d.from.now.value v held d.worker d.own.now n line rest is (own_print (tree_at v.home) (plan_at v.home) (turns_place d.turns.now.value) v.processor line) in
     let one = c.further-self.ensures in (
       line,
       is ∙ ap (λ ds. printing line ∷ ds) (sym (stays_on (λ u k. left_own d.turns.now.value d.from.now.value u d.own.now k) v d.turns.now.value d.done.done c.further-self.result.done one ∙ r.left)),
@@ -30,6 +30,6 @@ returns-clause-registers c =
     let n = place_of v d.turns.now.value + d.done.done in
     let held : AreHeld v.home = subst AreHeld (sym d.same_table) c.laws_of.ensures in
     let (line, rest, is) = c.requires in
-    let r = prints (phase_deed (tree_at v.home) (plan_at v.home) (styled_place d.turns.now.value) v.processor) d.from.now.value v held d.worker d.own.now n line rest is (own_print (tree_at v.home) (plan_at v.home) (styled_place d.turns.now.value) v.processor line) in
+    let r = prints (phase_deed (tree_at v.home) (plan_at v.home) (turns_place d.turns.now.value) v.processor) d.from.now.value v held d.worker d.own.now n line rest is (own_print (tree_at v.home) (plan_at v.home) (turns_place d.turns.now.value) v.processor line) in
     let one = c.further-self.ensures in
     stays_on registers_behind v d.turns.now.value d.done.done c.further-self.result.done one ∙ r.registers

@@ -1,7 +1,7 @@
 use Rattle.std.proofs.Common.{◌+◌, ◌∷◌, w64, FitsSigned, set, sym, ap, ◌∙◌, subst, arith, rules}
 use Rattle.std.proofs.lemmas.Int.{to_z-of_z}
 use Rattle.spmd_model.specs.Deeds.{storing}
-use Rattle.styled_turns.specs.StyledLeft.{styled_place}
+use Rattle.turns.specs.TurnsLeft.{turns_place}
 use Rattle.spmd_workers.specs.Held.{AreHeld}
 use Rattle.fork_join.specs.SeenDeeds.{phase_deed}
 use Rattle.spmd_workers.specs.Places.{left_own, place_of, plan_at, printed_behind, registers_behind, tree_at}
@@ -15,7 +15,7 @@ store-requires-clause-next c =
     let v = d.seat.now in
     let n = place_of v d.turns.now.value + d.done.done in
     let held : AreHeld v.home = subst AreHeld (sym d.same_table) c.laws_of.ensures in
-    let f = phase_deed (tree_at v.home) (plan_at v.home) (styled_place d.turns.now.value) v.processor in
+    let f = phase_deed (tree_at v.home) (plan_at v.home) (turns_place d.turns.now.value) v.processor in
     let at = its_slot v.home d.turns.now.value d.scalars.now d.known c.args.cell c.place_of.result c.place_of.ensures in
     let (value, rest, is, stored) = c.requires in
     let s = stores_shared f d.from.now.value v held d.worker d.own.now n c.args.cell value rest is (shared_store_back v.home d.turns.now.value v.processor c.args.cell c.place_of.result at value c.in_default.is) in
@@ -27,7 +27,7 @@ store-requires-clause-value c =
     let v = d.seat.now in
     let n = place_of v d.turns.now.value + d.done.done in
     let held : AreHeld v.home = subst AreHeld (sym d.same_table) c.laws_of.ensures in
-    let f = phase_deed (tree_at v.home) (plan_at v.home) (styled_place d.turns.now.value) v.processor in
+    let f = phase_deed (tree_at v.home) (plan_at v.home) (turns_place d.turns.now.value) v.processor in
     let at = its_slot v.home d.turns.now.value d.scalars.now d.known c.args.cell c.place_of.result c.place_of.ensures in
     let (value, rest, is, stored) = c.requires in
     let s = stores_shared f d.from.now.value v held d.worker d.own.now n c.args.cell value rest is (shared_store_back v.home d.turns.now.value v.processor c.args.cell c.place_of.result at value c.in_default.is) in
@@ -40,7 +40,7 @@ returns-in_default-clause-left c =
     let v = d.seat.now in
     let n = place_of v d.turns.now.value + d.done.done in
     let held : AreHeld v.home = subst AreHeld (sym d.same_table) c.laws_of.ensures in
-    let f = phase_deed (tree_at v.home) (plan_at v.home) (styled_place d.turns.now.value) v.processor in
+    let f = phase_deed (tree_at v.home) (plan_at v.home) (turns_place d.turns.now.value) v.processor in
     let at = its_slot v.home d.turns.now.value d.scalars.now d.known c.args.cell c.place_of.result c.place_of.ensures in
     let (value, rest, is, stored) = c.requires in
     let s = stores_shared f d.from.now.value v held d.worker d.own.now n c.args.cell value rest is (shared_store_back v.home d.turns.now.value v.processor c.args.cell c.place_of.result at value c.in_default.is) in
@@ -53,7 +53,7 @@ returns-in_default-clause-registers c =
     let v = d.seat.now in
     let n = place_of v d.turns.now.value + d.done.done in
     let held : AreHeld v.home = subst AreHeld (sym d.same_table) c.laws_of.ensures in
-    let f = phase_deed (tree_at v.home) (plan_at v.home) (styled_place d.turns.now.value) v.processor in
+    let f = phase_deed (tree_at v.home) (plan_at v.home) (turns_place d.turns.now.value) v.processor in
     let at = its_slot v.home d.turns.now.value d.scalars.now d.known c.args.cell c.place_of.result c.place_of.ensures in
     let (value, rest, is, stored) = c.requires in
     let s = stores_shared f d.from.now.value v held d.worker d.own.now n c.args.cell value rest is (shared_store_back v.home d.turns.now.value v.processor c.args.cell c.place_of.result at value c.in_default.is) in
@@ -65,7 +65,7 @@ returns-in_default-clause-printed c =
     let v = d.seat.now in
     let n = place_of v d.turns.now.value + d.done.done in
     let held : AreHeld v.home = subst AreHeld (sym d.same_table) c.laws_of.ensures in
-    let f = phase_deed (tree_at v.home) (plan_at v.home) (styled_place d.turns.now.value) v.processor in
+    let f = phase_deed (tree_at v.home) (plan_at v.home) (turns_place d.turns.now.value) v.processor in
     let at = its_slot v.home d.turns.now.value d.scalars.now d.known c.args.cell c.place_of.result c.place_of.ensures in
     let (value, rest, is, stored) = c.requires in
     let s = stores_shared f d.from.now.value v held d.worker d.own.now n c.args.cell value rest is (shared_store_back v.home d.turns.now.value v.processor c.args.cell c.place_of.result at value c.in_default.is) in
@@ -77,7 +77,7 @@ returns-clause-left c =
     let v = d.seat.now in
     let n = place_of v d.turns.now.value + d.done.done in
     let held : AreHeld v.home = subst AreHeld (sym d.same_table) c.laws_of.ensures in
-    let f = phase_deed (tree_at v.home) (plan_at v.home) (styled_place d.turns.now.value) v.processor in
+    let f = phase_deed (tree_at v.home) (plan_at v.home) (turns_place d.turns.now.value) v.processor in
     let at = its_slot v.home d.turns.now.value d.scalars.now d.known c.args.cell c.place_of.result c.place_of.ensures in
     let (value, rest, is, stored) = c.requires in
     let small = its_small v.home d.turns.now.value d.scalars.now d.known c.args.cell c.place_of.result at c.in-Some.place c.in-Some.is in
@@ -93,7 +93,7 @@ returns-clause-registers c =
     let v = d.seat.now in
     let n = place_of v d.turns.now.value + d.done.done in
     let held : AreHeld v.home = subst AreHeld (sym d.same_table) c.laws_of.ensures in
-    let f = phase_deed (tree_at v.home) (plan_at v.home) (styled_place d.turns.now.value) v.processor in
+    let f = phase_deed (tree_at v.home) (plan_at v.home) (turns_place d.turns.now.value) v.processor in
     let at = its_slot v.home d.turns.now.value d.scalars.now d.known c.args.cell c.place_of.result c.place_of.ensures in
     let (value, rest, is, stored) = c.requires in
     let small = its_small v.home d.turns.now.value d.scalars.now d.known c.args.cell c.place_of.result at c.in-Some.place c.in-Some.is in
@@ -106,7 +106,7 @@ returns-clause-printed c =
     let v = d.seat.now in
     let n = place_of v d.turns.now.value + d.done.done in
     let held : AreHeld v.home = subst AreHeld (sym d.same_table) c.laws_of.ensures in
-    let f = phase_deed (tree_at v.home) (plan_at v.home) (styled_place d.turns.now.value) v.processor in
+    let f = phase_deed (tree_at v.home) (plan_at v.home) (turns_place d.turns.now.value) v.processor in
     let at = its_slot v.home d.turns.now.value d.scalars.now d.known c.args.cell c.place_of.result c.place_of.ensures in
     let (value, rest, is, stored) = c.requires in
     let small = its_small v.home d.turns.now.value d.scalars.now d.known c.args.cell c.place_of.result at c.in-Some.place c.in-Some.is in

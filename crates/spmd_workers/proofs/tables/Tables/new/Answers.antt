@@ -6,8 +6,8 @@ use Rattle.nest_model.specs.Visits.{visits}
 use Rattle.nest_walk.specs.Walks.{enters_but}
 use Rattle.nest_walk.proofs.CursorMoves.{values_are}
 use Rattle.seq_meaning.proofs.RunSteps.{written_back}
-use Rattle.spmd_turns.specs.Rooms.{AreSilent, visit_room}
-use Rattle.spmd_turns.proofs.Silent.{room_of_walk}
+use Rattle.instance_runs.specs.Rooms.{AreSilent, visit_room}
+use Rattle.instance_runs.proofs.Silent.{room_of_walk}
 use Rattle.spmd_workers.proofs.tables.Tables.new.Goals as goal
 
 pub invariant_of-result : goal.invariant_of-result

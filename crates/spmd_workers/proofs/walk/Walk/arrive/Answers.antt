@@ -1,6 +1,6 @@
 use Rattle.std.proofs.Common.{◌≡◌, ◌-◌, suc, refl, sym, subst, inl, arith}
 use Rattle.spmd_model.specs.Timelines.{counter}
-use Rattle.styled_turns.specs.StyledTurns.{sets}
+use Rattle.turns.specs.Turns.{sets}
 use Rattle.shared_words.specs.Calls.{ArrivesNext}
 use Rattle.spmd_workers.specs.Held.{AreHeld}
 use Rattle.spmd_workers.proofs.Steps.{barrier_here, come_on, leads_on, post_answered, post_next, same_turn, seat_gone}

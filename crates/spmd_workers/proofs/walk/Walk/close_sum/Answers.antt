@@ -4,8 +4,8 @@ use Rattle.nest_tree.specs.Layout.{first_cell}
 use Rattle.sync_plan.specs.Own.{own_loop}
 use Rattle.own_cells.specs.OwnCells.{shared_cell}
 use Rattle.own_cells.specs.declared.cells.OwnCells.{OwnCells}
-use Rattle.styled_turns.specs.StyledTurns.{scalar_at}
-use Rattle.styled_turns.specs.StyledLeft.{styled_place}
+use Rattle.turns.specs.Turns.{scalar_at}
+use Rattle.turns.specs.TurnsLeft.{turns_place}
 use Rattle.shared_words.specs.Calls.{AddsNext}
 use Rattle.spmd_workers.specs.Held.{AreHeld}
 use Rattle.spmd_workers.specs.Places.{plan_at, tree_at}
@@ -17,7 +17,7 @@ use Rattle.spmd_workers.proofs.walk.Walk.close_sum.Goals as goal
 pub cell-cell-requires : goal.cell-cell-requires
 cell-cell-requires c =
     let x = c.args.self.now in
-    let to = (first_cell (tree_at x.seat.home) (scalar_at (own_loop (tree_at x.seat.home) (plan_at x.seat.home) (styled_place x.turns)) c.args.place)) in
+    let to = (first_cell (tree_at x.seat.home) (scalar_at (own_loop (tree_at x.seat.home) (plan_at x.seat.home) (turns_place x.turns)) c.args.place)) in
     (to, ap (λ (o : OwnCells). shared_cell o c.args.place) c.own_cells.ensures ∙ shared_is x c.requires.ready (subst AreHeld (sym c.requires.own) c.laws_of.ensures) c.args.place c.requires.next)
 
 pub add-requires-clause-next : goal.add-requires-clause-next
@@ -25,7 +25,7 @@ add-requires-clause-next c =
     let x = c.args.self.now in
     let ready = c.requires.ready in
     let held : AreHeld x.seat.home = subst AreHeld (sym c.requires.own) c.laws_of.ensures in
-    let cell : c.cell-cell.result ≡ (first_cell (tree_at x.seat.home) (scalar_at (own_loop (tree_at x.seat.home) (plan_at x.seat.home) (styled_place x.turns)) c.args.place)) = (let both : Some c.cell-cell.result ≡ Some (first_cell (tree_at x.seat.home) (scalar_at (own_loop (tree_at x.seat.home) (plan_at x.seat.home) (styled_place x.turns)) c.args.place)) = sym c.cell-cell.ensures ∙ ap (λ (o : OwnCells). shared_cell o c.args.place) c.own_cells.ensures ∙ shared_is x ready held c.args.place c.requires.next in cc) in
+    let cell : c.cell-cell.result ≡ (first_cell (tree_at x.seat.home) (scalar_at (own_loop (tree_at x.seat.home) (plan_at x.seat.home) (turns_place x.turns)) c.args.place)) = (let both : Some c.cell-cell.result ≡ Some (first_cell (tree_at x.seat.home) (scalar_at (own_loop (tree_at x.seat.home) (plan_at x.seat.home) (turns_place x.turns)) c.args.place)) = sym c.cell-cell.ensures ∙ ap (λ (o : OwnCells). shared_cell o c.args.place) c.own_cells.ensures ∙ shared_is x ready held c.args.place c.requires.next in cc) in
     subst (AddsNext x.seat) (sym cell) (totals_next x ready held c.args.place c.requires.next c.requires.kind)
 
 pub add-requires-clause-amount : goal.add-requires-clause-amount

@@ -1,7 +1,7 @@
 use Rattle.std.proofs.Common.{◌≡◌, ◌<◌, suc, refl, sym, ◌∙◌, ap, subst, inl, arith}
 use Rattle.spmd_model.specs.Timelines.{counter}
-use Rattle.styled_turns.specs.StyledTurns.{sets}
-use Rattle.styled_turns.specs.StyledLeft.{styled_left, styled_plan}
+use Rattle.turns.specs.Turns.{sets}
+use Rattle.turns.specs.TurnsLeft.{turns_left, turns_plan}
 use Rattle.spmd_workers.specs.Held.{AreHeld}
 use Rattle.spmd_workers.proofs.Joins.{join_awaits}
 use Rattle.spmd_workers.proofs.Steps.{come_on, join_answered, join_here, leads_on, post_next, same_turn, seat_gone}
@@ -94,7 +94,7 @@ returns-clause-tells c =
     let turns = same_turn next.1 went.passed.1 in
     let phase : c.phase-phase.result ≡ suc c.args.number = c.phase-phase.ensures c.args.number (inl c.requires.next) in
     let y = record x { seat = c.post.new.seat; turns = c.pass.new.self; answered = c.phase-phase.result } in
-    let several : 1 < (styled_plan c.pass.new.self).workers = (let n = c.workers.ensures in omega (arith, n, c.if-workers-lt2.false)) in
+    let several : 1 < (turns_plan c.pass.new.self).workers = (let n = c.workers.ensures in omega (arith, n, c.if-workers-lt2.false)) in
     let join = (join_here x ready c.args.number c.requires.boundary).0 in
-    let there = join_awaits x ready c.args.number (styled_left c.pass.new.self) turns join (subst (λ n. 1 < n) (ap (λ q. q.workers) (went.same.plan ∙ ready.plan)) several) in
+    let there = join_awaits x ready c.args.number (turns_left c.pass.new.self) turns join (subst (λ n. 1 < n) (ap (λ q. q.workers) (went.same.plan ∙ ready.plan)) several) in
     joined_tells x ready held y c.args.number c.phase-phase.result c.post.ensures.goes refl refl refl went.sound went.same went.begins turns phase refl (omega (arith, c.if-phase-self.false)) there.0 c.args.number there.1 there.2 several join

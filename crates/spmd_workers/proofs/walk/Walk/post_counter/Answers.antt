@@ -1,6 +1,6 @@
 use Rattle.std.proofs.Common.{refl, sym, subst}
 use Rattle.spmd_model.specs.Timelines.{counter}
-use Rattle.styled_turns.specs.StyledTurns.{sets}
+use Rattle.turns.specs.Turns.{sets}
 use Rattle.spmd_workers.specs.Held.{AreHeld}
 use Rattle.spmd_workers.proofs.Steps.{come_on, counters_here, leads_on, post_answered, post_next, same_turn, seat_gone}
 use Rattle.spmd_workers.proofs.Waits.{set_goes}

@@ -2,7 +2,7 @@ use Rattle.std.proofs.Common.{◌≡◌, ◌+◌, ◌++◌, List, sym, ap, ◌�
 use Rattle.std.specs.List.{flat_map}
 use Rattle.nest_walk.specs.Strips.{strip_left}
 use Rattle.spmd_model.specs.Deeds.{Deed, instance_deeds}
-use Rattle.spmd_turns.specs.Executors.{executor_tree}
+use Rattle.instance_runs.specs.Executors.{executor_tree}
 use Rattle.spmd_workers.specs.Places.{left_shared, place_of}
 use Rattle.spmd_workers.proofs.walk.Walk.repeat.Goals as goal
 

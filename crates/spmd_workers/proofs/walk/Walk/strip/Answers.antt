@@ -6,9 +6,9 @@ use Rattle.nest_walk.specs.Strips.{strip_left}
 use Rattle.sync_plan.specs.declared.plan.Plan.{Plan}
 use Rattle.spmd_model.specs.Deeds.{instance_deeds}
 use Rattle.spmd_model.specs.MachineDeeds.{HasNoOwn}
-use Rattle.spmd_turns.specs.Executors.{executor_tree}
-use Rattle.styled_turns.specs.StyledTurns.{runs}
-use Rattle.styled_turns.specs.StyledLeft.{beginnings_left, styled_left, styled_place, styled_plan}
+use Rattle.instance_runs.specs.Executors.{executor_tree}
+use Rattle.turns.specs.Turns.{runs}
+use Rattle.turns.specs.TurnsLeft.{beginnings_left, turns_left, turns_place, turns_plan}
 use Rattle.shared_words.specs.Homes.{Home}
 use Rattle.spmd_workers.specs.Held.{AreHeld}
 use Rattle.spmd_workers.specs.Legs.{IsSameSeat}
@@ -31,7 +31,7 @@ repeat-requires-clause-walked c =
     c.in-Some.ensures.tree ∙ c.in-Some.ensures.same.program ∙ ready.tree ∙ sym ready.executes
 
 pub repeat-requires-clause-inside : goal.repeat-requires-clause-inside
-repeat-requires-clause-inside c = inside_here c.args.self.now c.requires.ready (styled_place c.args.self.now.turns) (strip_left c.in-Some.strip) (styled_left c.strip.new.self) c.in-Some.ensures.left
+repeat-requires-clause-inside c = inside_here c.args.self.now c.requires.ready (turns_place c.args.self.now.turns) (strip_left c.in-Some.strip) (turns_left c.strip.new.self) c.in-Some.ensures.left
 
 pub repeat-requires-clause-left : goal.repeat-requires-clause-left
 repeat-requires-clause-left c =
@@ -40,11 +40,11 @@ repeat-requires-clause-left c =
     let st = c.in-Some.ensures in
     let turns = c.of-turns.result.value in
     let tree = tree_at x.seat.home in
-    let none : HasNoOwn tree (plan_at x.seat.home) (styled_place x.turns) = subst (λ (q : Plan). HasNoOwn tree q (styled_place x.turns)) ready.plan (subst (λ (t : Tree). HasNoOwn t (styled_plan x.turns) (styled_place x.turns)) ready.tree st.own) in
+    let none : HasNoOwn tree (plan_at x.seat.home) (turns_place x.turns) = subst (λ (q : Plan). HasNoOwn tree q (turns_place x.turns)) ready.plan (subst (λ (t : Tree). HasNoOwn t (turns_plan x.turns) (turns_place x.turns)) ready.tree st.own) in
     let front = strip_left c.in-Some.strip in
-    let rest = styled_left c.strip.new.self in
+    let rest = turns_left c.strip.new.self in
     let f = shared_deed tree in
-    let here = strip_here f x ready (styled_place x.turns) (λ i there. shared_instance tree (plan_at x.seat.home) (styled_place x.turns) x.seat.processor i none there) front rest st.left in
+    let here = strip_here f x ready (turns_place x.turns) (λ i there. shared_instance tree (plan_at x.seat.home) (turns_place x.turns) x.seat.processor i none there) front rest st.left in
     (map f (deeds_in x.seat.home x.seat.processor rest), ap (λ t. left_shared x.seat x.seat x.own (place_of x.seat t)) c.of-turns.ensures ∙ here)
 
 pub repeat-requires-clause-idle : goal.repeat-requires-clause-idle
@@ -57,30 +57,30 @@ returns-clause-goes c =
     let st = c.in-Some.ensures in
     let turns = c.of-turns.result.value in
     let tree = tree_at x.seat.home in
-    let none : HasNoOwn tree (plan_at x.seat.home) (styled_place x.turns) = subst (λ (q : Plan). HasNoOwn tree q (styled_place x.turns)) ready.plan (subst (λ (t : Tree). HasNoOwn t (styled_plan x.turns) (styled_place x.turns)) ready.tree st.own) in
+    let none : HasNoOwn tree (plan_at x.seat.home) (turns_place x.turns) = subst (λ (q : Plan). HasNoOwn tree q (turns_place x.turns)) ready.plan (subst (λ (t : Tree). HasNoOwn t (turns_plan x.turns) (turns_place x.turns)) ready.tree st.own) in
     let front = strip_left c.in-Some.strip in
-    let rest = styled_left c.strip.new.self in
+    let rest = turns_left c.strip.new.self in
     let f = shared_deed tree in
-    let here = strip_here f x ready (styled_place x.turns) (λ i there. shared_instance tree (plan_at x.seat.home) (styled_place x.turns) x.seat.processor i none there) front rest st.left in
+    let here = strip_here f x ready (turns_place x.turns) (λ i there. shared_instance tree (plan_at x.seat.home) (turns_place x.turns) x.seat.processor i none there) front rest st.left in
     let held : AreHeld x.seat.home = subst AreHeld (sym c.requires.own) c.laws_of.ensures in
     let y = c.repeat.new.self in
     let did = c.repeat.ensures in
     let done = c.repeat.result.value.done in
     let from = c.of-turns.ensures in
     let same : IsSameSeat x.seat y.seat = record { home = did.home; processor = did.processor } in
-    let left_turns = st.left ∙ ap (λ t. map (runs (styled_place x.turns)) front ++ styled_left t) (sym did.turns) in
+    let left_turns = st.left ∙ ap (λ t. map (runs (turns_place x.turns)) front ++ turns_left t) (sym did.turns) in
     let before = ap (λ t. left_shared x.seat x.seat x.own (place_of x.seat t)) from ∙ here in
     let behind = append_cancel_left (flat_map (instance_deeds (executor_tree x.executor)) front) (left_shared x.seat y.seat y.own (place_of y.seat turns + done)) (map f (deeds_in x.seat.home x.seat.processor rest)) (sym did.left ∙ before) in
-    let same_cells : map (shared_deed (tree_at y.seat.home)) (left_behind x.seat y.seat y.own (place_of y.seat x.turns + done)) ≡ map f (deeds_in x.seat.home x.seat.processor (styled_left y.turns)) =
-    sym (ap (λ t. left_shared x.seat y.seat y.own (place_of y.seat t + done)) from) ∙ behind ∙ ap (λ t. map f (deeds_in x.seat.home x.seat.processor (styled_left t))) (sym did.turns) in
+    let same_cells : map (shared_deed (tree_at y.seat.home)) (left_behind x.seat y.seat y.own (place_of y.seat x.turns + done)) ≡ map f (deeds_in x.seat.home x.seat.processor (turns_left y.turns)) =
+    sym (ap (λ t. left_shared x.seat y.seat y.own (place_of y.seat t + done)) from) ∙ behind ∙ ap (λ t. map f (deeds_in x.seat.home x.seat.processor (turns_left t))) (sym did.turns) in
     let left = ap (λ (h : Home). map (shared_deed (tree_at h)) (left_behind x.seat y.seat y.own (place_of y.seat x.turns + done))) (sym did.home) ∙ same_cells in
-    let many = same_count f (left_behind x.seat y.seat y.own (place_of y.seat x.turns + done)) (deeds_in x.seat.home x.seat.processor (styled_left y.turns)) left in
+    let many = same_count f (left_behind x.seat y.seat y.own (place_of y.seat x.turns + done)) (deeds_in x.seat.home x.seat.processor (turns_left y.turns)) left in
     let idle = sym (ap (λ t. registers_behind y.seat (place_of y.seat t + done)) from) ∙ did.idle in
     let output = did.output ∙ ready.output ∙ sym (ap (λ t. printed_behind x.seat (place_of x.seat t)) from) ∙ sym did.printed ∙ ap (λ t. printed_behind y.seat (place_of y.seat t + done)) from in
     let long = ap (λ (l : List ℕ). length l) did.output in
     let wide = did.room in
     let come : HasCome x.turns y.turns = subst (HasCome x.turns) (sym did.turns) (come_on x.turns c.strip.new.self st.sound st.same st.begins) in
-    turns_go x ready held y (map (runs (styled_place x.turns)) front) done same left_turns (no_posts_run x.seat.home x.seat.processor (styled_place x.turns) front) many come idle did.can did.program output (omega (arith, long)) (omega (arith, wide)) did.answered did.ended did.legs
+    turns_go x ready held y (map (runs (turns_place x.turns)) front) done same left_turns (no_posts_run x.seat.home x.seat.processor (turns_place x.turns) front) many come idle did.can did.program output (omega (arith, long)) (omega (arith, wide)) did.answered did.ended did.legs
 
 pub returns-clause-on : goal.returns-clause-on
 returns-clause-on c = λ _.
@@ -89,26 +89,26 @@ returns-clause-on c = λ _.
     let st = c.in-Some.ensures in
     let turns = c.of-turns.result.value in
     let tree = tree_at x.seat.home in
-    let none : HasNoOwn tree (plan_at x.seat.home) (styled_place x.turns) = subst (λ (q : Plan). HasNoOwn tree q (styled_place x.turns)) ready.plan (subst (λ (t : Tree). HasNoOwn t (styled_plan x.turns) (styled_place x.turns)) ready.tree st.own) in
+    let none : HasNoOwn tree (plan_at x.seat.home) (turns_place x.turns) = subst (λ (q : Plan). HasNoOwn tree q (turns_place x.turns)) ready.plan (subst (λ (t : Tree). HasNoOwn t (turns_plan x.turns) (turns_place x.turns)) ready.tree st.own) in
     let front = strip_left c.in-Some.strip in
-    let rest = styled_left c.strip.new.self in
+    let rest = turns_left c.strip.new.self in
     let f = shared_deed tree in
-    let here = strip_here f x ready (styled_place x.turns) (λ i there. shared_instance tree (plan_at x.seat.home) (styled_place x.turns) x.seat.processor i none there) front rest st.left in
+    let here = strip_here f x ready (turns_place x.turns) (λ i there. shared_instance tree (plan_at x.seat.home) (turns_place x.turns) x.seat.processor i none there) front rest st.left in
     let held : AreHeld x.seat.home = subst AreHeld (sym c.requires.own) c.laws_of.ensures in
     let y = c.repeat.new.self in
     let did = c.repeat.ensures in
     let done = c.repeat.result.value.done in
     let from = c.of-turns.ensures in
     let same : IsSameSeat x.seat y.seat = record { home = did.home; processor = did.processor } in
-    let left_turns = st.left ∙ ap (λ t. map (runs (styled_place x.turns)) front ++ styled_left t) (sym did.turns) in
+    let left_turns = st.left ∙ ap (λ t. map (runs (turns_place x.turns)) front ++ turns_left t) (sym did.turns) in
     let before = ap (λ t. left_shared x.seat x.seat x.own (place_of x.seat t)) from ∙ here in
     let behind = append_cancel_left (flat_map (instance_deeds (executor_tree x.executor)) front) (left_shared x.seat y.seat y.own (place_of y.seat turns + done)) (map f (deeds_in x.seat.home x.seat.processor rest)) (sym did.left ∙ before) in
-    let same_cells : map (shared_deed (tree_at y.seat.home)) (left_behind x.seat y.seat y.own (place_of y.seat x.turns + done)) ≡ map f (deeds_in x.seat.home x.seat.processor (styled_left y.turns)) =
-    sym (ap (λ t. left_shared x.seat y.seat y.own (place_of y.seat t + done)) from) ∙ behind ∙ ap (λ t. map f (deeds_in x.seat.home x.seat.processor (styled_left t))) (sym did.turns) in
+    let same_cells : map (shared_deed (tree_at y.seat.home)) (left_behind x.seat y.seat y.own (place_of y.seat x.turns + done)) ≡ map f (deeds_in x.seat.home x.seat.processor (turns_left y.turns)) =
+    sym (ap (λ t. left_shared x.seat y.seat y.own (place_of y.seat t + done)) from) ∙ behind ∙ ap (λ t. map f (deeds_in x.seat.home x.seat.processor (turns_left t))) (sym did.turns) in
     let left = ap (λ (h : Home). map (shared_deed (tree_at h)) (left_behind x.seat y.seat y.own (place_of y.seat x.turns + done))) (sym did.home) ∙ same_cells in
-    let many = same_count f (left_behind x.seat y.seat y.own (place_of y.seat x.turns + done)) (deeds_in x.seat.home x.seat.processor (styled_left y.turns)) left in
-    let some : 0 < length (map (runs (styled_place x.turns)) front) = (let count = length-map front (runs (styled_place x.turns)) in let many = st.some in omega (arith, count, many)) in
-    turns_lead x ready held y (map (runs (styled_place x.turns)) front) done same left_turns (no_posts_run x.seat.home x.seat.processor (styled_place x.turns) front) many some (ap beginnings_left did.turns ∙ st.begins) did.answered
+    let many = same_count f (left_behind x.seat y.seat y.own (place_of y.seat x.turns + done)) (deeds_in x.seat.home x.seat.processor (turns_left y.turns)) left in
+    let some : 0 < length (map (runs (turns_place x.turns)) front) = (let count = length-map front (runs (turns_place x.turns)) in let many = st.some in omega (arith, count, many)) in
+    turns_lead x ready held y (map (runs (turns_place x.turns)) front) done same left_turns (no_posts_run x.seat.home x.seat.processor (turns_place x.turns) front) many some (ap beginnings_left did.turns ∙ st.begins) did.answered
 
 pub returns-clause-begins : goal.returns-clause-begins
 returns-clause-begins c = ap beginnings_left c.repeat.ensures.turns ∙ c.in-Some.ensures.begins

@@ -1,6 +1,6 @@
 use Rattle.std.proofs.Common.{refl, sym, subst, inl}
 use Rattle.spmd_model.specs.Timelines.{counter}
-use Rattle.styled_turns.specs.StyledTurns.{waits}
+use Rattle.turns.specs.Turns.{waits}
 use Rattle.spmd_workers.specs.Held.{AreHeld}
 use Rattle.spmd_workers.proofs.Steps.{await_next, come_on, leads_on, no_barrier_here, same_turn, seat_gone}
 use Rattle.spmd_workers.proofs.Waits.{awaits_same, came_goes, still_goes, waits_tells}

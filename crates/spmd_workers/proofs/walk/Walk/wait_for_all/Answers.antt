@@ -1,8 +1,8 @@
 use Rattle.std.proofs.Common.{◌≡◌, ◌-◌, suc, ◌++◌, length, map, refl, sym, ◌∙◌, ap, subst, inr, arith}
 use Rattle.owner_partition.specs.Phases.{phases}
 use Rattle.spmd_model.specs.Timelines.{counter}
-use Rattle.styled_turns.specs.StyledTurns.{waits}
-use Rattle.styled_turns.specs.StyledLeft.{styled_left}
+use Rattle.turns.specs.Turns.{waits}
+use Rattle.turns.specs.TurnsLeft.{turns_left}
 use Rattle.shared_words.specs.Calls.{GathersNext}
 use Rattle.spmd_workers.specs.Held.{AreHeld}
 use Rattle.spmd_workers.specs.Places.{plan_at, tree_at}
@@ -41,8 +41,8 @@ returns-in-Ok-clause-goes c =
     let (n, qs, turns) = went.passed in
     let begins = went.phase on number c.requires.next in
     let front = ready.begins ∙ ap (λ l. ready.begun ++ l) (sym went.begins) in
-    let same = row_number n on number qs (styled_left y.turns) next.0 turns next.1 (no_wait_first y.turns number begins (length (phases (tree_at x.seat.home) (plan_at x.seat.home).cut.marks)) ready.begun front on) in
-    let passed = turns ∙ ap (λ k. map (λ q. waits counter q k) qs ++ styled_left y.turns) same.0 in
+    let same = row_number n on number qs (turns_left y.turns) next.0 turns next.1 (no_wait_first y.turns number begins (length (phases (tree_at x.seat.home) (plan_at x.seat.home).cut.marks)) ready.begun front on) in
+    let passed = turns ∙ ap (λ k. map (λ q. waits counter q k) qs ++ turns_left y.turns) same.0 in
     all_goes x ready held y number qs on next.0 c.in-Ok.ensures.came refl refl refl refl went.sound went.same went.begins passed same.1 begins next.1 (barrier_here x ready number c.requires.boundary).1 c.behind_wait-self.ensures
 
 pub returns-in-Ok-clause-tells : goal.returns-in-Ok-clause-tells
@@ -58,8 +58,8 @@ returns-in-Ok-clause-tells c =
     let (n, qs, turns) = went.passed in
     let begins = went.phase on number c.requires.next in
     let front = ready.begins ∙ ap (λ l. ready.begun ++ l) (sym went.begins) in
-    let same = row_number n on number qs (styled_left y.turns) next.0 turns next.1 (no_wait_first y.turns number begins (length (phases (tree_at x.seat.home) (plan_at x.seat.home).cut.marks)) ready.begun front on) in
-    let passed = turns ∙ ap (λ k. map (λ q. waits counter q k) qs ++ styled_left y.turns) same.0 in
+    let same = row_number n on number qs (turns_left y.turns) next.0 turns next.1 (no_wait_first y.turns number begins (length (phases (tree_at x.seat.home) (plan_at x.seat.home).cut.marks)) ready.begun front on) in
+    let passed = turns ∙ ap (λ k. map (λ q. waits counter q k) qs ++ turns_left y.turns) same.0 in
     all_leads x ready held y number qs on next.0 c.in-Ok.ensures.came refl refl refl refl went.sound went.same went.begins passed same.1 begins next.1 (barrier_here x ready number c.requires.boundary).1
 
 pub returns-in-Err-clause-goes : goal.returns-in-Err-clause-goes

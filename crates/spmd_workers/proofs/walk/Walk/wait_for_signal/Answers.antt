@@ -1,6 +1,6 @@
 use Rattle.std.proofs.Common.{refl, sym, subst, inl, inr}
 use Rattle.spmd_model.specs.Timelines.{signal}
-use Rattle.styled_turns.specs.StyledTurns.{waits}
+use Rattle.turns.specs.Turns.{waits}
 use Rattle.spmd_workers.specs.Held.{AreHeld}
 use Rattle.spmd_workers.proofs.Steps.{await_next, come_on, leads_on, same_turn, seat_gone}
 use Rattle.spmd_workers.proofs.Waits.{came_goes, signals_same, still_goes, waits_tells}

@@ -1,5 +1,5 @@
 use Rattle.sync_plan.specs.Own.{own_loop}
-use Rattle.styled_turns.specs.StyledLeft.{styled_place, styled_plan, styled_tree}
+use Rattle.turns.specs.TurnsLeft.{turns_place, turns_plan, turns_tree}
 use Rattle.std.proofs.Common.{sym, subst}
 use Rattle.own_cells.specs.OwnCells.{AreOwnCells}
 use Rattle.own_cells.specs.declared.cells.OwnCells.{OwnCells}
@@ -8,7 +8,7 @@ use Rattle.spmd_workers.proofs.walk.Walk.work.Goals as goal
 pub work_shared-requires-clause-none : goal.work_shared-requires-clause-none
 work_shared-requires-clause-none c =
     let t = c.args.self.now.turns in
-    let own = own_loop (styled_tree t) (styled_plan t) (styled_place t) in
-    let known = subst (λ (o : OwnCells). AreOwnCells (styled_tree t) own o) (sym c.own_cells.ensures) c.requires.ready.sound.own.cells in
-    let none = c.is_empty.ensures (styled_tree t) own known c.if-is_empty.true in
+    let own = own_loop (turns_tree t) (turns_plan t) (turns_place t) in
+    let known = subst (λ (o : OwnCells). AreOwnCells (turns_tree t) own o) (sym c.own_cells.ensures) c.requires.ready.sound.own.cells in
+    let none = c.is_empty.ensures (turns_tree t) own known c.if-is_empty.true in
     record { privates = none.0; sums = none.1 }

@@ -6,10 +6,10 @@ use Rattle.sync_plan.specs.Own.{own_of}
 use Rattle.sync_plan.specs.declared.plan.Plan.{Plan}
 use Rattle.spmd_model.specs.Deeds.{Deed, instance_deeds}
 use Rattle.spmd_model.specs.MachineDeeds.{HasNoOwn, own_deeds}
-use Rattle.styled_turns.specs.StyledTurns.{runs, styled_room}
-use Rattle.styled_turns.specs.StyledLeft.{AreStyled, IsSameRun, IsStyledNext, beginnings_left, styled_left, styled_place, styled_plan}
-use Rattle.styled_turns.specs.declared.turns.StyledNext.TheVariants.{Work}
-use Rattle.styled_turns.specs.declared.turns.StyledTurns.{StyledTurns}
+use Rattle.turns.specs.Turns.{runs, turn_room}
+use Rattle.turns.specs.TurnsLeft.{AreSound, IsSameRun, IsNext, beginnings_left, turns_left, turns_place, turns_plan}
+use Rattle.turns.specs.declared.turns.Next.TheVariants.{Work}
+use Rattle.turns.specs.declared.turns.Turns.{Turns}
 use Rattle.shared_words.specs.Homes.{Home}
 use Rattle.spmd_workers.specs.Held.{AreHeld}
 use Rattle.spmd_workers.specs.Legs.{IsSameSeat}
@@ -31,8 +31,8 @@ execute-requires-clause-begins c =
     let x = c.args.self.now in
     let ready = c.requires.ready in
     let h = x.seat.home in
-    let place = styled_place x.turns in
-    let none : HasNoOwn (tree_at h) (plan_at h) place = subst (λ (q : Plan). HasNoOwn (tree_at h) q place) ready.plan (subst (λ (t : Tree). HasNoOwn t (styled_plan x.turns) place) ready.tree c.requires.none) in
+    let place = turns_place x.turns in
+    let none : HasNoOwn (tree_at h) (plan_at h) place = subst (λ (q : Plan). HasNoOwn (tree_at h) q place) ready.plan (subst (λ (t : Tree). HasNoOwn t (turns_plan x.turns) place) ready.tree c.requires.none) in
     let f : Deed → Deed = shared_deed (tree_at h) in
     let gives : (i : Instance) → is_instance_there (tree_at h) i ≡ true → map f (own_deeds (tree_at h) (own_of (tree_at h) (plan_at h) place) x.seat.processor i) ≡ instance_deeds (tree_at h) i = λ i there. shared_instance (tree_at h) (plan_at h) place x.seat.processor i none there in
     let at = c.requires.next.0 in
@@ -44,8 +44,8 @@ execute-requires-clause-room c =
     let x = c.args.self.now in
     let ready = c.requires.ready in
     let h = x.seat.home in
-    let place = styled_place x.turns in
-    let none : HasNoOwn (tree_at h) (plan_at h) place = subst (λ (q : Plan). HasNoOwn (tree_at h) q place) ready.plan (subst (λ (t : Tree). HasNoOwn t (styled_plan x.turns) place) ready.tree c.requires.none) in
+    let place = turns_place x.turns in
+    let none : HasNoOwn (tree_at h) (plan_at h) place = subst (λ (q : Plan). HasNoOwn (tree_at h) q place) ready.plan (subst (λ (t : Tree). HasNoOwn t (turns_plan x.turns) place) ready.tree c.requires.none) in
     let f : Deed → Deed = shared_deed (tree_at h) in
     let gives : (i : Instance) → is_instance_there (tree_at h) i ≡ true → map f (own_deeds (tree_at h) (own_of (tree_at h) (plan_at h) place) x.seat.processor i) ≡ instance_deeds (tree_at h) i = λ i there. shared_instance (tree_at h) (plan_at h) place x.seat.processor i none there in
     let at = c.requires.next.0 in
@@ -53,18 +53,18 @@ execute-requires-clause-room c =
     fits_here f x ready place gives c.args.stop at next.0 next.1
 
 pub pass-requires-clause-sound : goal.pass-requires-clause-sound
-pass-requires-clause-sound c = subst AreStyled (sym c.execute.ensures.turns) c.requires.ready.sound
+pass-requires-clause-sound c = subst AreSound (sym c.execute.ensures.turns) c.requires.ready.sound
 
 pub pass-requires-clause-next : goal.pass-requires-clause-next
-pass-requires-clause-next c = subst (λ (t : StyledTurns). IsStyledNext t (Work c.args.stop)) (sym c.execute.ensures.turns) c.requires.next
+pass-requires-clause-next c = subst (λ (t : Turns). IsNext t (Work c.args.stop)) (sym c.execute.ensures.turns) c.requires.next
 
 pub returns-clause-goes : goal.returns-clause-goes
 returns-clause-goes c =
     let x = c.args.self.now in
     let ready = c.requires.ready in
     let h = x.seat.home in
-    let place = styled_place x.turns in
-    let none : HasNoOwn (tree_at h) (plan_at h) place = subst (λ (q : Plan). HasNoOwn (tree_at h) q place) ready.plan (subst (λ (t : Tree). HasNoOwn t (styled_plan x.turns) place) ready.tree c.requires.none) in
+    let place = turns_place x.turns in
+    let none : HasNoOwn (tree_at h) (plan_at h) place = subst (λ (q : Plan). HasNoOwn (tree_at h) q place) ready.plan (subst (λ (t : Tree). HasNoOwn t (turns_plan x.turns) place) ready.tree c.requires.none) in
     let f : Deed → Deed = shared_deed (tree_at h) in
     let gives : (i : Instance) → is_instance_there (tree_at h) i ≡ true → map f (own_deeds (tree_at h) (own_of (tree_at h) (plan_at h) place) x.seat.processor i) ≡ instance_deeds (tree_at h) i = λ i there. shared_instance (tree_at h) (plan_at h) place x.seat.processor i none there in
     let at = c.requires.next.0 in
@@ -75,13 +75,13 @@ returns-clause-goes c =
     let did = c.execute.ensures in
     let went = c.pass.ensures in
     let same : IsSameSeat x.seat y.seat = record { home = did.home; processor = did.processor } in
-    let turns = same_turn next.1 (sym (ap styled_left did.turns) ∙ went.passed.1) in
+    let turns = same_turn next.1 (sym (ap turns_left did.turns) ∙ went.passed.1) in
     let begins = went.begins ∙ ap beginnings_left did.turns in
-    let run : IsSameRun x.turns y.turns = subst (λ (t : StyledTurns). IsSameRun t y.turns) did.turns went.same in
+    let run : IsSameRun x.turns y.turns = subst (λ (t : Turns). IsSameRun t y.turns) did.turns went.same in
     let left = ap (λ (g : Home). map (shared_deed (tree_at g)) (left_behind x.seat y.seat y.own (place_of y.seat x.turns + c.execute.result.value.done))) (sym did.home) ∙ did.left (begins_here f x ready place gives c.args.stop at next.0 next.1) ∙ rest_here f x ready place gives c.args.stop at next.0 next.1
     ∙ ap (λ ts. map f (deeds_in h x.seat.processor ts)) (same_tail next.1 turns) in
-    let many = same_count f (left_behind x.seat y.seat y.own (place_of y.seat x.turns + c.execute.result.value.done)) (deeds_in h x.seat.processor (styled_left y.turns)) left in
-    let one = sum_by-cons (styled_room (tree_at h)) (runs place at.instance) [] in
+    let many = same_count f (left_behind x.seat y.seat y.own (place_of y.seat x.turns + c.execute.result.value.done)) (deeds_in h x.seat.processor (turns_left y.turns)) left in
+    let one = sum_by-cons (turn_room (tree_at h)) (runs place at.instance) [] in
     let its = room_here f x ready place gives c.args.stop at next.0 next.1 in
     let long = did.grown in
     turns_go x ready held y (runs place at.instance ∷ []) c.execute.result.value.done same turns (no_posts_run h x.seat.processor place (at.instance ∷ [])) many (come_on x.turns y.turns went.sound run begins) did.idle did.can did.program did.output (omega (arith, one, its, long)) did.room did.answered did.ended did.legs
@@ -91,8 +91,8 @@ returns-clause-tells c =
     let x = c.args.self.now in
     let ready = c.requires.ready in
     let h = x.seat.home in
-    let place = styled_place x.turns in
-    let none : HasNoOwn (tree_at h) (plan_at h) place = subst (λ (q : Plan). HasNoOwn (tree_at h) q place) ready.plan (subst (λ (t : Tree). HasNoOwn t (styled_plan x.turns) place) ready.tree c.requires.none) in
+    let place = turns_place x.turns in
+    let none : HasNoOwn (tree_at h) (plan_at h) place = subst (λ (q : Plan). HasNoOwn (tree_at h) q place) ready.plan (subst (λ (t : Tree). HasNoOwn t (turns_plan x.turns) place) ready.tree c.requires.none) in
     let f : Deed → Deed = shared_deed (tree_at h) in
     let gives : (i : Instance) → is_instance_there (tree_at h) i ≡ true → map f (own_deeds (tree_at h) (own_of (tree_at h) (plan_at h) place) x.seat.processor i) ≡ instance_deeds (tree_at h) i = λ i there. shared_instance (tree_at h) (plan_at h) place x.seat.processor i none there in
     let at = c.requires.next.0 in
@@ -103,10 +103,10 @@ returns-clause-tells c =
     let did = c.execute.ensures in
     let went = c.pass.ensures in
     let same : IsSameSeat x.seat y.seat = record { home = did.home; processor = did.processor } in
-    let turns = same_turn next.1 (sym (ap styled_left did.turns) ∙ went.passed.1) in
+    let turns = same_turn next.1 (sym (ap turns_left did.turns) ∙ went.passed.1) in
     let begins = went.begins ∙ ap beginnings_left did.turns in
-    let run : IsSameRun x.turns y.turns = subst (λ (t : StyledTurns). IsSameRun t y.turns) did.turns went.same in
+    let run : IsSameRun x.turns y.turns = subst (λ (t : Turns). IsSameRun t y.turns) did.turns went.same in
     let left = ap (λ (g : Home). map (shared_deed (tree_at g)) (left_behind x.seat y.seat y.own (place_of y.seat x.turns + c.execute.result.value.done))) (sym did.home) ∙ did.left (begins_here f x ready place gives c.args.stop at next.0 next.1) ∙ rest_here f x ready place gives c.args.stop at next.0 next.1
     ∙ ap (λ ts. map f (deeds_in h x.seat.processor ts)) (same_tail next.1 turns) in
-    let many = same_count f (left_behind x.seat y.seat y.own (place_of y.seat x.turns + c.execute.result.value.done)) (deeds_in h x.seat.processor (styled_left y.turns)) left in
+    let many = same_count f (left_behind x.seat y.seat y.own (place_of y.seat x.turns + c.execute.result.value.done)) (deeds_in h x.seat.processor (turns_left y.turns)) left in
     turns_lead x ready held y (runs place at.instance ∷ []) c.execute.result.value.done same turns (no_posts_run h x.seat.processor place (at.instance ∷ [])) many (omega arith) begins did.answered

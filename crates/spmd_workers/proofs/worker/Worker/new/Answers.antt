@@ -2,11 +2,11 @@ use Rattle.std.proofs.Common.{◌≡◌, ◌≤◌, pos, replicate, false, Some,
 use Rattle.std.specs.List.{range_with_len}
 use Rattle.std.specs.Prelude.{length}
 use Rattle.owner_partition.specs.Phases.{phases}
-use Rattle.spmd_turns.specs.Executors.{executor_room}
-use Rattle.spmd_turns.specs.Rooms.{longest_output}
-use Rattle.spmd_turns.specs.Turns.{turns_from}
-use Rattle.styled_turns.specs.StyledTurns.{first_standing, styled}
-use Rattle.styled_turns.specs.StyledLeft.{beginnings_left, styled_left}
+use Rattle.instance_runs.specs.Executors.{executor_room}
+use Rattle.instance_runs.specs.Rooms.{longest_output}
+use Rattle.turns.specs.CounterTurns.{counter_turns}
+use Rattle.turns.specs.Turns.{first_standing, turns_by}
+use Rattle.turns.specs.TurnsLeft.{beginnings_left, turns_left}
 use Rattle.shared_words.specs.Homes.{plan_given, style_given, tree_given}
 use Rattle.spmd_workers.specs.Held.{AreHeld}
 use Rattle.spmd_workers.specs.Places.{plan_at, tree_at, turns_at}
@@ -28,7 +28,7 @@ invariant_of-result c =
     let tree = sym (ap tree_given given) in
     let plan = sym (ap plan_given given) in
     let style = sym (ap style_given given) in
-    let all : styled_left c.new-turns.result ≡ turns_at h seat.processor = turns.turns ∙ (λ i. styled (style i) (tree i) (plan i) (who.processor i) first_standing (turns_from (tree i) (plan i) (who.processor i) 1 (phases (tree i) (plan i).cut.marks))) in
+    let all : turns_left c.new-turns.result ≡ turns_at h seat.processor = turns.turns ∙ (λ i. turns_by (style i) (tree i) (plan i) (who.processor i) first_standing (counter_turns (tree i) (plan i) (who.processor i) 1 (phases (tree i) (plan i).cut.marks))) in
     let begins : beginnings_left c.new-turns.result ≡ range_with_len 1 (length (phases (tree_at h) (plan_at h).cut.marks)) = turns.begins ∙ (λ i. range_with_len 1 (length (phases (tree i) (plan i).cut.marks))) in
     let wide : seat.processor ≡ 0 → longest_output (tree_at h) ≤ executor_room x = λ first.
     elim c.if-processor-eq0.branch [

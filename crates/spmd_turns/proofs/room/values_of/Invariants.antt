@@ -1,6 +1,0 @@
-use Rattle.std.proofs.Common.{◌≡◌, take}
-use Rattle.spmd_turns.specs.Loads.{widths}
-use Rattle.spmd_turns.proofs.room.values_of.Given as goal
-
-abbrev pub invariant-loop-load : goal.invariant-loop-load
-invariant-loop-load l = l.count ≡ widths (take l.load-index l.loads)

@@ -1,6 +1,0 @@
-pub mod Turns
-pub mod TurnsLeft
-pub mod Loads
-pub mod LoadPlaces
-pub mod Rooms
-pub mod Executors

@@ -1,2 +1,0 @@
-pub mod StyledTurns
-pub mod StyledLeft

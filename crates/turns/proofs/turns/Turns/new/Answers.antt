@@ -1,0 +1,66 @@
+use Rattle.std.proofs.Common.{◌++◌, ◌*◌, suc, drop, length, refl, ap, sym, subst, ◌∙◌, arith}
+use Rattle.nest_tree.specs.View.{tree_of}
+use Rattle.nest_walk.proofs.CellPlaces.{few_cells}
+use Rattle.owner_partition.specs.Phases.{phases}
+use Rattle.owner_partition.specs.PhasesLeft.{phases_passed}
+use Rattle.own_cells.specs.OwnCells.{cells_of}
+use Rattle.turns.specs.CounterTurns.{counter_turns}
+use Rattle.turns.specs.CountersLeft.{counters_left}
+use Rattle.turns.specs.Turns.{beginnings, first_standing, no_phase, turns_by}
+use Rattle.turns.specs.TurnsLeft.{AreNumbered}
+use Rattle.turns.proofs.Beginnings.{all_begin}
+use Rattle.turns.proofs.KnownOwn.{few_none, none_past, past_phases}
+use Rattle.turns.proofs.Steps.{none_among}
+use Rattle.turns.proofs.TurnLists.{no_rounds, numbered_from}
+use Rattle.turns.proofs.turns.Turns.new.Goals as goal
+
+pub returns-clause-sound : goal.returns-clause-sound
+returns-clause-sound c =
+    let tree = tree_of c.args.program.now in
+    let plan = c.args.plan.now in
+    let all = phases tree plan.cut.marks in
+    let none = none_past tree plan no_phase (past_phases tree plan c.requires.formed) in
+    let passed = c.new-2.ensures.passed in
+    record {
+      formed = c.requires.formed;
+      fits = c.requires.fits;
+      worker = c.requires.worker;
+      few_cells = few_cells tree c.requires.limits;
+      sound = c.new.ensures.sound;
+      same_tree = c.new.ensures.program;
+      same_plan = c.new.ensures.plan;
+      same_processor = c.new.ensures.processor;
+      has = c.has_own-has_own.ensures;
+      watched = c.is_watched.ensures plan c.has_own-has_own.ensures;
+      own = record {
+        few = few_none tree plan no_phase none;
+        cells = record { private_cells = c.none.ensures.privates ∙ sym (ap (cells_of tree) none.privates); sums = c.none.ensures.sums ∙ sym none.sums; sum_cells = c.none.ensures.sum_cells ∙ sym (ap (cells_of tree) none.sums) };
+        loop = none.privates;
+        among = λ k is. none_among k is;
+      };
+      all_steps = ap (λ n. n * 2) c.rounds_of-steps.ensures.rounds;
+      within = omega arith;
+      first_low = omega arith;
+      phases = λ w. record {
+        walked = c.new-2.ensures.program;
+        entered = c.new-2.ensures.enters;
+        behind = c.new-2.ensures.phases ∙ sym (ap (λ n. drop n all) passed);
+        numbered = subst (AreNumbered (length all) (suc (phases_passed c.new-2.result))) (sym c.new.ensures.turns) (subst (λ n. AreNumbered (length all) (suc n) (counter_turns tree plan c.args.processor 1 all)) (sym passed) (numbered_from tree plan c.args.processor (length all) 1 all (omega arith)));
+        few_barriers = omega arith;
+      };
+      unwatched = λ w. record { no_place = refl; none = refl; no_round = refl };
+      arrives = λ w. refl;
+    }
+
+pub returns-clause-turns : goal.returns-clause-turns
+returns-clause-turns c =
+    let plan = c.args.plan.now in
+    let turns = turns_by c.args.style (tree_of c.args.program.now) plan c.args.processor first_standing in
+    let steps = c.rounds_of-steps.result * 2 in
+    ap (λ l. l ++ turns (counters_left c.new.result)) (no_rounds plan.workers c.args.processor 1 steps steps refl) ∙ ap turns c.new.ensures.turns
+
+pub returns-clause-begins : goal.returns-clause-begins
+returns-clause-begins c =
+    let tree = tree_of c.args.program.now in
+    let marks = c.args.plan.now.cut.marks in
+    ap beginnings c.new.ensures.turns ∙ all_begin tree c.args.plan.now c.args.processor 1 (phases tree marks)

@@ -1,0 +1,4 @@
+pub mod CounterTurns
+pub mod CountersLeft
+pub mod Turns
+pub mod TurnsLeft
