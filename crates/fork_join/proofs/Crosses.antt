@@ -101,7 +101,7 @@ CounterTurns-field-send a =
             PhaseCursor-field-send a,
             (
               Instances-field-send a,
-              (search (sendable, crosses) depth 20, (search (sendable, crosses) depth 20, (search (sendable, crosses) depth 20, (search (sendable, crosses) depth 20, (search (sendable, crosses) depth 20, (search (sendable, crosses, Stop-send) depth 20, tt)))))),
+              (search (sendable, crosses) depth 20, (search (sendable, crosses) depth 20, (search (sendable, crosses) depth 20, (search (sendable, crosses) depth 20, (search (sendable, crosses) depth 20, (search (sendable, crosses) depth 20, (search (sendable, crosses, Stop-send) depth 20, tt))))))),
             ),
           ),
         ),
@@ -129,15 +129,12 @@ Turns-field-send a =
                 (
                   search (sendable, crosses) depth 20,
                   (
-                    PhaseCursor-field-send a,
+                    search (sendable, crosses) depth 20,
                     (
-                      search (sendable, crosses) depth 20,
+                      own_cells.the_field_send,
                       (
-                        own_cells.the_field_send,
-                        (
-                          search (sendable, crosses) depth 20,
-                          (search (sendable, crosses) depth 20, (search (sendable, crosses) depth 20, (search (sendable, crosses) depth 20, (search (sendable, crosses) depth 20, (search (sendable, crosses) depth 20, tt))))),
-                        ),
+                        search (sendable, crosses) depth 20,
+                        (search (sendable, crosses) depth 20, (search (sendable, crosses) depth 20, (search (sendable, crosses) depth 20, (search (sendable, crosses) depth 20, (search (sendable, crosses) depth 20, tt))))),
                       ),
                     ),
                   ),

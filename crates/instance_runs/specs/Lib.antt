@@ -1,5 +1,4 @@
 pub mod Stops
-pub mod CounterTurns
 pub mod Loads
 pub mod LoadPlaces
 pub mod Rooms

@@ -1,12 +1,10 @@
 -- What a worker's calls rest on: counters that come next, the awaits of a boundary at once, and strips.
-use Rattle.std.proofs.Common.{◌≡◌, ℕ, suc, true, false, List, [], ◌∷◌, ◌++◌, map, length, Option, Some, None, if◌then◌else◌, refl, ap, sym, subst, ◌∙◌, inl, inr}
+use Rattle.std.proofs.Common.{◌≡◌, ℕ, suc, true, false, List, [], ◌∷◌, ◌++◌, map, length, Option, Some, None, if◌then◌else◌, refl, ap, sym, subst, ◌∙◌, inl, inr, arith}
 use Rattle.std.specs.Option.{MatchOption}
 use Rattle.nest_tree.specs.Tree.{Tree}
 use Rattle.nest_model.specs.Instances.{Instance}
 use Rattle.nest_walk.specs.Strips.{strip_left}
 use Rattle.nest_walk.specs.declared.strip.Strip.{Strip}
-use Rattle.owner_partition.specs.Phases.{phases}
-use Rattle.owner_partition.specs.PhasesLeft.{phases_passed}
 use Rattle.sync_plan.specs.declared.plan.Plan.{Plan}
 use Rattle.spmd_model.specs.MachineDeeds.{HasNoOwn}
 use Rattle.spmd_model.specs.Timelines.{counter}
@@ -17,10 +15,10 @@ use Rattle.turns.specs.declared.counters.CounterNext.TheVariants as Plain
 use Rattle.turns.specs.declared.counters.CounterTurns.{CounterTurns}
 use Rattle.turns.proofs.CounterLists.{some_turn}
 use Rattle.turns.specs.Turns.{Turn, runs, waits, Standing, beginnings, closed, closes, is_signalled, none_pending, places_pending, turns_by}
-use Rattle.turns.specs.TurnsLeft.{AreNumbered, AreSound, IsAtCounter, IsNext, ShowsCounter, standing, turns_left, turns_plan, turns_processor, turns_tree}
+use Rattle.turns.specs.TurnsLeft.{AreSound, IsAtCounter, IsNext, ShowsCounter, standing, turns_left, turns_plan, turns_processor, turns_tree}
 use Rattle.turns.specs.declared.turns.Next.TheVariants.{Await}
 use Rattle.turns.specs.declared.turns.Turns.{Turns}
-use Rattle.turns.proofs.Beginnings.{strip_begun}
+use Rattle.turns.proofs.Beginnings.{awaits_begun, strip_begun}
 use Rattle.turns.proofs.KnownOwn.{nothing_marked}
 use Rattle.turns.proofs.Steps.{moved, none_among}
 use Rattle.turns.proofs.TurnLists.{bare}
@@ -83,16 +81,11 @@ awaits_left c t on wanted shows a =
     ∙ awaits_shown c.style (turns_tree c) (turns_plan c) (turns_processor c) wanted shows.by_counters (standing c) a.first a.others (counters_left t) shows.none
     ∙ sym (ap (λ l. map (λ q. waits counter q wanted) (a.first ∷ a.others) ++ l) (bare (record c { counters = t; pending = none_pending }) shows.shows.rounds))
 
-numbered_behind_awaits : (count e number : ℕ) (qs : List ℕ) (rest : List CounterTurn) → AreNumbered count e (map (λ q. awaits q number) qs ++ rest) → AreNumbered count e rest
-numbered_behind_awaits count e number [] rest h = h
-numbered_behind_awaits count e number (q ∷ qs) rest h = numbered_behind_awaits count e number qs rest h
-
 pub awaits_sound : (c : Turns) (t : CounterTurns) (number : ℕ) (qs : List ℕ) → AreSound c → AreSoundCounters t → counters_tree t ≡ counters_tree c.counters → counters_plan t ≡ counters_plan c.counters → counters_processor t ≡ counters_processor c.counters →
     counters_left c.counters ≡ map (λ q. awaits q number) qs ++ counters_left t → AreSound (record c { counters = t; pending = none_pending })
 awaits_sound c t number qs s sound tree plan processor left =
-    let count = length (phases (turns_tree c) (turns_plan c).cut.marks) in
-    let e = suc (phases_passed c.phases) in
-    moved c t none_pending s sound tree plan processor (λ k is. none_among k is) (λ w. numbered_behind_awaits count e number qs (counters_left t) (subst (AreNumbered count e) left (s.phases w).numbered)) (λ w. refl)
+    let same = ap length (awaits_begun number qs (counters_left c.counters) (counters_left t) left) in
+    moved c t none_pending s sound tree plan processor (λ k is. none_among k is) (λ w. let few = s.few_barriers w in omega (arith, same, few)) (λ w. refl)
 
 -- ---- past a strip
 
@@ -102,10 +95,6 @@ instances_shown style tree plan p s [] rest none = refl
 instances_shown style tree plan p s (i ∷ is) rest none =
     ap (λ bs. runs s.place i ∷ turns_by style tree plan p (record { place = s.place; pending = bs; barriers = s.barriers }) (map works is ++ rest)) (nothing_marked tree plan s i none)
     ∙ ap (λ l. runs s.place i ∷ l) (instances_shown style tree plan p s is rest none)
-
-numbered_behind_works : (count e : ℕ) (is : List Instance) (rest : List CounterTurn) → AreNumbered count e (map works is ++ rest) → AreNumbered count e rest
-numbered_behind_works count e [] rest h = h
-numbered_behind_works count e (i ∷ is) rest h = numbered_behind_works count e is rest h
 
 -- so many instances go, or none
 module _ (c : Turns) (t : CounterTurns) (is : List Instance) (passed : counters_left c.counters ≡ map works is ++ counters_left t) where
@@ -117,11 +106,10 @@ module _ (c : Turns) (t : CounterTurns) (is : List Instance) (passed : counters_
 
   instances_sound : AreSound c → AreSoundCounters t → counters_tree t ≡ counters_tree c.counters → counters_plan t ≡ counters_plan c.counters → counters_processor t ≡ counters_processor c.counters → AreSound (record c { counters = t })
   instances_sound s sound tree plan processor =
-      let count = length (phases (turns_tree c) (turns_plan c).cut.marks) in
-      let e = suc (phases_passed c.phases) in
-      moved c t c.pending s sound tree plan processor s.own.among (λ w. numbered_behind_works count e is (counters_left t) (subst (AreNumbered count e) passed (s.phases w).numbered)) (λ w. (s.unwatched w).none)
+      let same = ap length (strip_begun is (counters_left c.counters) (counters_left t) passed) in
+      moved c t c.pending s sound tree plan processor s.own.among (λ w. let few = s.few_barriers w in omega (arith, same, few)) (λ w. (s.unwatched w).none)
 
--- what the plain cursor's strip leaves
+-- what the strip of the cursor of counters leaves
 abbrev pub IsPlainStrip : Turns → CounterTurns → Option Strip → Type 0
 IsPlainStrip c t o = MatchOption o (counters_left t ≡ counters_left c.counters) (λ s. counters_left c.counters ≡ map works (strip_left s) ++ counters_left t)
 

@@ -1,4 +1,4 @@
--- The turns that are left, in their parts.
+-- The counter turns that are left, in their parts.
 use Rattle.std.proofs.Common.{◌≡◌, ◌==◌, ◌||◌, not, ℕ, zero, suc, ◌-◌, ◌*◌, ◌%◌, ◌^◌, ◌<◌, ◌≤◌, ℤ, ◌&&◌, nat_le, Bool, true, false, true≢false, is_some, List, [], ◌∷◌, ◌++◌, drop, length, map, Option, Some, None, if◌then◌else◌, refl, ap, sym, ◌∙◌, inl, inr, arith}
 use Rattle.std.specs.Prelude.{slice_get}
 use Rattle.std.specs.List.{list_all}
@@ -39,7 +39,7 @@ use Rattle.std.proofs.lemmas.List.{append_assoc, map-append}
 use Rattle.nest_walk.specs.InstancesLeft.{instances_left}
 use Rattle.owner_partition.specs.PhasesLeft.{phases_left, phases_passed}
 use Rattle.turns.specs.CounterTurns.{CounterTurn, awaits, begins, posts, works, boundary_turns, counter_turns, without_beginnings}
-use Rattle.turns.specs.CountersLeft.{AreSoundCounters, IsAct, IsCounterNext, IsOne, at_turn, begun_by, come_of, counters_left, counters_plan, counters_rounds, counters_tree}
+use Rattle.turns.specs.CountersLeft.{AreSoundCounters, IsAct, IsBegun, IsCounterNext, IsOne, at_turn, begun_by, come_of, counters_left, counters_plan, counters_rounds, counters_tree}
 use Rattle.turns.specs.declared.counters.CounterNext.{CounterNext}
 use Rattle.turns.specs.declared.counters.CounterNext.TheVariants.{Post, Await, Phase, Work, End}
 use Rattle.turns.specs.declared.counters.CounterTurns.{CounterTurns}
@@ -276,9 +276,9 @@ await_stands c on wanted rest sound some is = elim (cases_Bool c.posts) [
         no_work (sym first.1 ∙ is)
 
 -- with less at hand
-pub sound_less : (c : CounterTurns) → AreSoundCounters c → (post : Bool) (word : ℕ) (begin : Option ℕ) (come : Option Stop) → ((post || not (word == 0)) ≡ true → begin ≡ Some (suc c.number) × ((c.posts || not (c.awaits == 0)) ≡ true)) → IsOne (counters_tree c) (counters_rounds c) come →
+pub sound_less : (c : CounterTurns) → AreSoundCounters c → (post : Bool) (word : ℕ) (begin : Option ℕ) (come : Option Stop) → ((post || not (word == 0)) ≡ true → begin ≡ Some (suc c.number) × ((c.posts || not (c.awaits == 0)) ≡ true)) → IsBegun (counters_tree c) (counters_plan c) c.place begin → IsOne (counters_tree c) (counters_rounds c) come →
     AreSoundCounters (record c { posts = post; awaits = word; begins = begin; come = come })
-sound_less c sound post word begin come front one = record {
+sound_less c sound post word begin come front begun one = record {
   formed = sound.formed;
   fits = sound.fits;
   worker = sound.worker;
@@ -287,6 +287,7 @@ sound_less c sound post word begin come front one = record {
   entered = sound.entered;
   behind = sound.behind;
   boundary = λ h. record { passed = (sound.boundary (front h).1).passed; phase = (front h).0 };
+  begun = begun;
   one = one;
 }
 

@@ -4,8 +4,6 @@ use Rattle.std.specs.Prelude.{slice_index_or, slice_set}
 use Rattle.nest_tree.specs.Tree.{Tree}
 use Rattle.nest_model.specs.Instances.{Instance}
 use Rattle.nest_walk.specs.declared.cursor.Stop.{Stop}
-use Rattle.owner_partition.specs.Phases.{phases}
-use Rattle.owner_partition.specs.PhasesLeft.{phases_passed}
 use Rattle.sync_plan.specs.Own.{own_loop}
 use Rattle.sync_plan.specs.declared.plan.Plan.{Plan}
 use Rattle.spmd_model.specs.Rounds.{awaited_in_round}
@@ -20,7 +18,8 @@ use Rattle.turns.specs.declared.counters.CounterTurns.{CounterTurns}
 use Rattle.turns.specs.Turns.{Turn, sets, waits, closed, is_signalled, is_watched, no_phase, none_pending, places_pending, round_turn, turns_by}
 use Rattle.turns.specs.TurnsLeft.{AreSound, IsBehindInstances, IsOpen, in_rounds, pends, turns, IsOwnPlace, IsSilent, IsSomeTurn, ShowsClosing, rounds_left, standing, turns_left, turns_plan, turns_processor, turns_tree}
 use Rattle.turns.specs.declared.turns.Turns.{Turns}
-use Rattle.turns.proofs.Steps.{moved, numbered_tail, still_among}
+use Rattle.turns.proofs.Beginnings.{work_begun}
+use Rattle.turns.proofs.Steps.{moved, still_among}
 use Rattle.turns.proofs.TurnLists.{await_first, by_counters, next_round, post_first, unseen}
 
 -- ---- where no phase is watched
@@ -108,25 +107,22 @@ stepped_sound c s lt = record {
   all_steps = s.all_steps;
   within = omega (arith, lt);
   first_low = s.first_low;
-  phases = s.phases;
+  few_barriers = s.few_barriers;
   unwatched = λ w. absurd (omega (arith, lt, (s.unwatched w).no_round));
   arrives = λ w. absurd (omega (arith, lt, s.arrives w));
 }
 
 pub closed_sound : (c : Turns) (k : ℕ) → AreSound c → length c.pending ≡ 32 → ShowsClosing c k → AreSound (record c { pending = slice_set c.pending k false })
 closed_sound c k s long shows =
-    moved c c.counters (slice_set c.pending k false) s s.sound refl refl refl (λ j is. s.own.among j (still_among c.pending k j long shows.small is)) (λ w. (s.phases w).numbered)
+    moved c c.counters (slice_set c.pending k false) s s.sound refl refl refl (λ j is. s.own.among j (still_among c.pending k j long shows.small is)) s.few_barriers
     (λ w. absurd (let clash : [] ≡ k ∷ places_pending (slice_set c.pending k false) = sym (ap places_pending (s.unwatched w).none) ∙ shows.pending in cc))
 
 -- past an instance
 pub worked_sound : (c : Turns) (t : CounterTurns) (bs : List Bool) (i : Instance) (u : CounterTurn) (rest : List CounterTurn) → AreSound c → AreSoundCounters t → counters_tree t ≡ counters_tree c.counters → counters_plan t ≡ counters_plan c.counters → counters_processor t ≡ counters_processor c.counters →
     counters_left c.counters ≡ works i ∷ rest → counters_left c.counters ≡ u ∷ counters_left t → ((k : ℕ) → slice_index_or bs k false ≡ true → IsOwnPlace (own_loop (turns_tree c) (turns_plan c) c.place) k) → (c.is_watched ≡ false → bs ≡ none_pending) → AreSound (record c { counters = t; pending = bs })
 worked_sound c t bs i u rest s sound tree plan processor is passed among none =
-    moved c t bs s sound tree plan processor among
-    (λ w. numbered_tail (length (phases (turns_tree c) (turns_plan c).cut.marks)) (suc (phases_passed c.phases)) (counters_left c.counters) (counters_left t) u passed other (s.phases w).numbered) none
-  where
-    other : (k : ℕ) → u ≡ begins k → ⊥
-    other k at = absurd (let clash : works i ∷ rest ≡ begins k ∷ counters_left t = sym is ∙ passed ∙ ap (λ v. v ∷ counters_left t) at in cc)
+    let same = ap length (work_begun (counters_left c.counters) rest (counters_left t) i u is passed) in
+    moved c t bs s sound tree plan processor among (λ w. let few = s.few_barriers w in omega (arith, same, few)) none
 
 -- ---- by counters
 

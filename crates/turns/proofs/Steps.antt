@@ -1,22 +1,24 @@
 -- A cursor of turns behind one move of it.
-use Rattle.std.proofs.Common.{◌≡◌, ℕ, suc, ◌+◌, ◌-◌, ◌*◌, ◌/◌, ◌<◌, Bool, true, false, true≢false, List, [], ◌∷◌, ◌++◌, length, map, Option, if◌then◌else◌, refl, ap, sym, subst, ◌∙◌, inl, inr, arith}
+use Rattle.std.proofs.Common.{◌≡◌, ℕ, suc, ◌+◌, ◌-◌, ◌*◌, ◌/◌, ◌<◌, ◌≤◌, Bool, true, false, true≢false, List, [], ◌∷◌, ◌++◌, length, map, Option, Some, if◌then◌else◌, refl, ap, sym, subst, ◌∙◌, inl, inr, arith}
 use Rattle.std.specs.Prelude.{slice_get, slice_index_or, slice_set}
 use Rattle.std.specs.List.{range_with_len}
 use Rattle.std.proofs.lemmas.Bool.{cases_eq}
 use Rattle.std.proofs.lemmas.List.{get_or-set_other, get_or-set_same}
 use Rattle.nest_tree.proofs.FirstLimits.{at_replicate}
+use Rattle.nest_tree.specs.Limits.{most_work}
+use Rattle.nest_tree.specs.Tree.{Tree}
 use Rattle.nest_model.specs.Instances.{Instance}
 use Rattle.nest_model.specs.Visits.{Visit}
 use Rattle.owner_partition.specs.Phases.{phases}
-use Rattle.owner_partition.specs.PhasesLeft.{phases_passed}
 use Rattle.sync_plan.specs.Own.{own_loop}
+use Rattle.sync_plan.specs.declared.plan.Plan.{Plan}
 use Rattle.spmd_model.specs.Rounds.{rounds_of}
 use Rattle.spmd_model.specs.Timelines as Timelines
 use Rattle.turns.specs.CounterTurns.{CounterTurn, posts, awaits, begins, works}
-use Rattle.turns.specs.CountersLeft.{AreSoundCounters, counters_left, counters_plan, counters_processor, counters_tree}
+use Rattle.turns.specs.CountersLeft.{AreSoundCounters, IsBegun, counters_left, counters_plan, counters_processor, counters_tree}
 use Rattle.turns.specs.declared.counters.CounterTurns.{CounterTurns}
-use Rattle.turns.specs.Turns.{Turn, sets, waits, runs, closes, Standing, all_rounds, begun, behind, closed, first_round, has_signals, is_signalled, is_watched, no_phase, none_pending, place_of, places_pending, round_turn, turns_by}
-use Rattle.turns.specs.TurnsLeft.{AreNumbered, AreSound, IsBehindInstances, IsCounterOf, IsOwnPlace, ShowsClosing, rounds_left, standing, turns_left, turns_plan, turns_processor, turns_tree}
+use Rattle.turns.specs.Turns.{Turn, sets, waits, runs, closes, Standing, all_rounds, beginnings, begun, behind, closed, first_round, has_signals, is_signalled, is_watched, no_phase, none_pending, place_of, places_pending, round_turn, turns_by}
+use Rattle.turns.specs.TurnsLeft.{AreSound, IsBehindInstances, IsCounterOf, IsOwnPlace, ShowsClosing, rounds_left, standing, turns_left, turns_plan, turns_processor, turns_tree}
 use Rattle.turns.specs.declared.turns.Turns.{Turns}
 use Rattle.turns.proofs.TurnLists.{await_first, bare, begin_first, closings_first, no_rounds, post_first, work_first}
 
@@ -25,9 +27,9 @@ use Rattle.turns.proofs.TurnLists.{await_first, bare, begin_first, closings_firs
 -- with other counter turns, and other places that pend
 pub moved : (c : Turns) (t : CounterTurns) (bs : List Bool) → AreSound c → AreSoundCounters t → counters_tree t ≡ counters_tree c.counters → counters_plan t ≡ counters_plan c.counters → counters_processor t ≡ counters_processor c.counters →
     ((k : ℕ) → slice_index_or bs k false ≡ true → IsOwnPlace (own_loop (turns_tree c) (turns_plan c) c.place) k) →
-    (c.is_watched ≡ true → AreNumbered (length (phases (turns_tree c) (turns_plan c).cut.marks)) (suc (phases_passed c.phases)) (counters_left t)) →
+    (c.is_watched ≡ true → c.barriers + length (beginnings (counters_left t)) ≤ most_work) →
     (c.is_watched ≡ false → bs ≡ none_pending) → AreSound (record c { counters = t; pending = bs })
-moved c t bs s sound tree plan processor among numbered none = record {
+moved c t bs s sound tree plan processor among few none = record {
   formed = s.formed;
   fits = s.fits;
   worker = s.worker;
@@ -42,20 +44,13 @@ moved c t bs s sound tree plan processor among numbered none = record {
   all_steps = s.all_steps;
   within = s.within;
   first_low = s.first_low;
-  phases = λ w. record { walked = (s.phases w).walked; entered = (s.phases w).entered; behind = (s.phases w).behind; numbered = numbered w; few_barriers = (s.phases w).few_barriers };
+  few_barriers = few;
   unwatched = λ w. record { no_place = (s.unwatched w).no_place; none = none w; no_round = (s.unwatched w).no_round };
   arrives = s.arrives;
 }
 
 pub none_among : {P : Type 0} (k : ℕ) → slice_index_or none_pending k false ≡ true → P
 none_among k is = absurd (true≢false (sym is ∙ at_replicate 32 k false))
-
--- the turns behind the first of those that begin one by one
-pub numbered_tail : (count e : ℕ) (ts rest : List CounterTurn) (t : CounterTurn) → ts ≡ t ∷ rest → ((k : ℕ) → t ≡ begins k → ⊥) → AreNumbered count e ts → AreNumbered count e rest
-numbered_tail count e ts rest (posts number) is other h = subst (AreNumbered count e) is h
-numbered_tail count e ts rest (awaits on wanted) is other h = subst (AreNumbered count e) is h
-numbered_tail count e ts rest (begins k) is other h = absurd (other k refl)
-numbered_tail count e ts rest (works i) is other h = subst (AreNumbered count e) is h
 
 -- ---- past the counters of a boundary
 
@@ -83,15 +78,12 @@ module _ (c : Turns) (t : CounterTurns) (rounds : c.step ≡ c.steps) (none : pl
   counter_passed (begins e ∷ rest) number u is of passed = absurd of
   counter_passed (works i ∷ rest) number u is of passed = absurd of
 
-  -- a counter isn't a beginning
-  pub no_beginning : (ts : List CounterTurn) (number : ℕ) (u : CounterTurn) → IsCounterOf ts number → ts ≡ u ∷ counters_left t → (k : ℕ) → u ≡ begins k → ⊥
-  no_beginning [] number u of passed k is = absurd of
-  no_beginning (posts n ∷ rest) number u of passed k is = let clash : posts n ≡ begins k = (let first : posts n ≡ u = cc in first ∙ is) in absurd (cc)
-  no_beginning (awaits on n ∷ rest) number u of passed k is = let clash : awaits on n ≡ begins k = (let first : awaits on n ≡ u = cc in first ∙ is) in absurd (cc)
-  no_beginning (begins e ∷ rest) number u of passed k is = absurd of
-  no_beginning (works i ∷ rest) number u of passed k is = absurd of
-
 -- ---- past the beginning of a phase
+
+-- of its program and plan
+pub begun_here : (c : Turns) → AreSound c → (place e : ℕ) → IsBegun (counters_tree c.counters) (counters_plan c.counters) place (Some e) → IsBegun (turns_tree c) (turns_plan c) place (Some e)
+begun_here c s place e is =
+    subst (λ (r : Plan). IsBegun (turns_tree c) r place (Some e)) s.same_plan (subst (λ (w : Tree). IsBegun w (counters_plan c.counters) place (Some e)) s.same_tree is)
 
 module _ (c : Turns) (t : CounterTurns) (e place first step barriers : ℕ) (b : Bool) (rounds : c.step ≡ c.steps) (none : places_pending c.pending ≡ []) (is : counters_left c.counters ≡ begins e ∷ counters_left t)
     (watched : is_watched c.style (turns_plan c) ≡ true) (all : c.steps ≡ rounds_of (turns_plan c).workers * 2)

@@ -19,7 +19,7 @@ use Rattle.turns.specs.CounterTurns.{CounterTurn, posts, awaits, begins, works, 
 use Rattle.turns.specs.CountersLeft.{counters_left}
 use Rattle.turns.specs.declared.counters.Boundary.TheVariants as Boundaries
 use Rattle.turns.specs.Turns.{Turn, sets, waits, runs, closes, Standing, all_rounds, begun, behind, closed, gathered, has_signals, is_signalled, is_watched, no_phase, none_pending, place_of, places_pending, round_turn, rounds_before, turns_by}
-use Rattle.turns.specs.TurnsLeft.{AreNumbered, IsBehindInstances, rounds_left, standing, turns_left, turns_plan, turns_processor, turns_tree}
+use Rattle.turns.specs.TurnsLeft.{IsBehindInstances, rounds_left, standing, turns_left, turns_plan, turns_processor, turns_tree}
 use Rattle.turns.specs.declared.turns.Turns.{Turns}
 
 pub none_places : places_pending none_pending ≡ []
@@ -148,33 +148,3 @@ unseen style tree plan p barriers (works i ∷ rest) none = refl
 pub by_counters : (style : Style) (tree : Tree) (plan : Plan) (number : ℕ) → is_watched style plan ≡ false → is_signalled style tree plan number ≡ false
 by_counters Arrive tree plan number none = refl
 by_counters Dissemination tree plan number none = absurd (true≢false none)
-
--- ---- phases that begin one by one
-
-numbered_works : (count e : ℕ) (is : List Instance) (later : List CounterTurn) → AreNumbered count e later → AreNumbered count e (map works is ++ later)
-numbered_works count e [] later h = h
-numbered_works count e (i ∷ is) later h = numbered_works count e is later h
-
-numbered_awaits : (count e number : ℕ) (qs : List ℕ) (later : List CounterTurn) → AreNumbered count e later → AreNumbered count e (map (λ q. awaits q number) qs ++ later)
-numbered_awaits count e number [] later h = h
-numbered_awaits count e number (q ∷ qs) later h = numbered_awaits count e number qs later h
-
-numbered_boundary : (count e number : ℕ) (does : Bool) (qs : List ℕ) (later : List CounterTurn) → AreNumbered count e later → AreNumbered count e (boundary_turns number does qs ++ later)
-numbered_boundary count e number true qs later h = numbered_awaits count e number qs later h
-numbered_boundary count e number false qs later h = numbered_awaits count e number qs later h
-
-pub numbered_from : (tree : Tree) (plan : Plan) (p count e : ℕ) (vs : List Visit) → e + length vs ≤ suc count → AreNumbered count e (counter_turns tree plan p e vs)
-numbered_from tree plan p count e [] long = tt
-numbered_from tree plan p count e (v ∷ vs) long =
-    let does = posts_at tree plan p v.place v.loops in
-    let qs = waits_for tree plan p v.place v.loops in
-    let own = owned_by tree (slice_get plan.anchors (v.place - 1)) plan.workers p v in
-    let rest = counter_turns tree plan p (suc e) vs in
-    let here : AreNumbered count e (begins e ∷ (map works own ++ rest)) = (refl, omega (arith, long), numbered_works count (suc e) own rest (numbered_from tree plan p count (suc e) vs (omega (arith, long)))) in
-    subst (AreNumbered count e) (sym (append_assoc (boundary_turns (e - 1) does qs) (begins e ∷ map works own) rest)) (numbered_boundary count e (e - 1) does qs (begins e ∷ (map works own ++ rest)) here)
-
-pub numbered_rest : (count e : ℕ) (t : CounterTurn) (rest : List CounterTurn) → ((k : ℕ) → t ≡ begins k → ⊥) → AreNumbered count e (t ∷ rest) → AreNumbered count e rest
-numbered_rest count e (posts number) rest other h = h
-numbered_rest count e (awaits on wanted) rest other h = h
-numbered_rest count e (begins k) rest other h = absurd (other k refl)
-numbered_rest count e (works i) rest other h = h

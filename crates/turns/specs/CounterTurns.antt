@@ -1,4 +1,4 @@
--- What a processor does, turn by turn: the posts and awaits of each boundary, the beginning of the phase, and the instances of it that it owns.
+-- What a processor would do by counters alone and without own cells, turn by turn: the posts and awaits of each boundary, the beginning of the phase, and the instances of it that it owns.
 use Rattle.std.specs.Prelude.{ℕ, suc, ◌-◌, Bool, true, ◌&&◌, nat_lt, Option, List, [], ◌∷◌, ◌++◌, map, slice_get, if◌then◌else◌}
 use Rattle.nest_tree.specs.Tree.{Tree}
 use Rattle.nest_model.specs.Instances.{Instance}

@@ -1,4 +1,4 @@
--- What a cursor of turns shows.
+-- What a cursor of counter turns shows, and what it keeps.
 use Rattle.std.specs.Prelude.{ℕ, suc, ◌+◌, ◌-◌, ◌<◌, ◌==◌, ◌||◌, ◌≡◌, ◌⊎◌, Bool, true, not, is_some, List, [], ◌∷◌, ◌++◌, drop, length, map, Option, Some, None, slice_get}
 use Rattle.nest_tree.specs.Tree.{Tree, param_values}
 use Rattle.nest_tree.specs.View.{tree_of}
@@ -98,6 +98,11 @@ abbrev pub IsOne : Tree → List Round → Option Stop → Type 0
 IsOne tree rounds None = Unit {0}
 IsOne tree rounds (Some stop) = IsInstance tree rounds stop
 
+-- the phase that begins is of the static phase with this place
+abbrev pub IsBegun : Tree → Plan → ℕ → Option ℕ → Type 0
+IsBegun tree plan place None = Unit {0}
+IsBegun tree plan place (Some e) = (v : Visit) × (slice_get (phases tree plan.cut.marks) (e - 1) ≡ Some v) × (place ≡ v.place)
+
 -- at a boundary it is known how it is passed, and the phase behind it has still to begin
 pub record IsInFront (c : CounterTurns) : Type 0 where
   pub passed : counters_boundary c ≡ boundary_at (counters_tree c) (counters_plan c) c.number
@@ -113,4 +118,5 @@ pub record AreSoundCounters (c : CounterTurns) : Type 0 where
   pub entered : phases_enters c.phases ≡ enters_outer (counters_plan c).cut.marks
   pub behind : phases_left c.phases ≡ drop (phases_passed c.phases) (phases (counters_tree c) (counters_plan c).cut.marks)
   pub boundary : (c.posts || not (c.awaits == 0)) ≡ true → IsInFront c
+  pub begun : IsBegun (counters_tree c) (counters_plan c) c.place c.begins
   pub one : IsOne (counters_tree c) (counters_rounds c) c.come

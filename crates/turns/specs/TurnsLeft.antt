@@ -12,10 +12,6 @@ use Rattle.nest_tree.specs.declared.tree.Nest.{Nest}
 use Rattle.nest_walk.specs.Paths.{Round}
 use Rattle.nest_walk.specs.Texts.{Placed}
 use Rattle.nest_walk.specs.declared.path.Path.{Path}
-use Rattle.owner_partition.specs.Marks.{enters_outer}
-use Rattle.owner_partition.specs.Phases.{phases as all_phases}
-use Rattle.owner_partition.specs.declared.phases.PhaseCursor.{PhaseCursor}
-use Rattle.owner_partition.specs.PhasesLeft.{phases_enters, phases_left, phases_passed, phases_tree}
 use Rattle.sync_plan.specs.Fit.{IsFit}
 use Rattle.sync_plan.specs.Own.{OwnLoop, own_loop}
 use Rattle.sync_plan.specs.Shape.{static_phases}
@@ -82,14 +78,6 @@ abbrev pub IsPlaced : Option Placed → Nest → Type 0
 IsPlaced None nest = ⊥
 IsPlaced (Some s) nest = s.what ≡ loop_of nest
 
--- phases begin one by one from this number on, up to a count
-abbrev pub AreNumbered : ℕ → ℕ → List CounterTurn → Type 0
-AreNumbered count e [] = Unit {0}
-AreNumbered count e (posts number ∷ rest) = AreNumbered count e rest
-AreNumbered count e (awaits on wanted ∷ rest) = AreNumbered count e rest
-AreNumbered count e (begins k ∷ rest) = (k ≡ e) × (e ≤ count) × AreNumbered count (suc e) rest
-AreNumbered count e (works i ∷ rest) = AreNumbered count e rest
-
 -- a place is that of an own scalar
 abbrev pub IsOwnPlace : OwnLoop → ℕ → Type 0
 IsOwnPlace own k = (k < length own.privates) ⊎ ((16 ≤ k) × (k - 16 < length own.sums))
@@ -100,14 +88,6 @@ pub record KnowsOwn (tree : Tree) (plan : Plan) (place : ℕ) (own : OwnCells) (
   pub cells : AreOwnCells tree (own_loop tree plan place) own
   pub loop : MatchOption nest ((own_loop tree plan place).privates ≡ []) (λ n. IsPlaced (slice_get (static_phases tree plan.cut.marks) (place - 1)) n.now)
   pub among : (k : ℕ) → slice_index_or pending k false ≡ true → IsOwnPlace (own_loop tree plan place) k
-
--- its phases are those of the plan, and begin one by one
-pub record WatchesPhases (tree : Tree) (plan : Plan) (phases : PhaseCursor) (barriers : ℕ) (left : List CounterTurn) : Type 0 where
-  pub walked : phases_tree phases ≡ tree
-  pub entered : phases_enters phases ≡ enters_outer plan.cut.marks
-  pub behind : phases_left phases ≡ drop (phases_passed phases) (all_phases tree plan.cut.marks)
-  pub numbered : AreNumbered (length (all_phases tree plan.cut.marks)) (suc (phases_passed phases)) left
-  pub few_barriers : barriers ≤ phases_passed phases
 
 -- where phases aren't watched nothing pends
 pub record WatchesNone (place : ℕ) (pending : List Bool) (step steps : ℕ) : Type 0 where
@@ -130,7 +110,8 @@ pub record AreSound (c : Turns) : Type 0 where
   pub all_steps : c.steps ≡ rounds_of (turns_plan c).workers * 2
   pub within : c.step ≤ c.steps
   pub first_low : c.first ≤ most_work * 6 + 1
-  pub phases : c.is_watched ≡ true → WatchesPhases (turns_tree c) (turns_plan c) c.phases c.barriers (counters_left c.counters)
+  -- no more barriers by signals than phases have begun
+  pub few_barriers : c.is_watched ≡ true → c.barriers + length (beginnings_left c) ≤ most_work
   pub unwatched : c.is_watched ≡ false → WatchesNone c.place c.pending c.step c.steps
   -- by counters there are no rounds
   pub arrives : c.style ≡ Arrive → c.step ≡ c.steps

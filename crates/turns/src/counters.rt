@@ -1,7 +1,8 @@
-// What a processor does, turn by turn.
+// What a processor would do by counters alone and without own cells, turn by turn: the turns
+// of turns.rt are made of these.
 
-ghost use Rattle.std.specs.Prelude.{◌≡◌, ◌<◌, ◌-◌, ℕ, suc, List, [], ◌∷◌, ◌++◌, IfSome, MatchOption, Some, length, map, min, slice_get, true, false};
-ghost use Rattle.nest_tree.specs.Limits.{IsWithinLimits};
+ghost use Rattle.std.specs.Prelude.{◌≡◌, ◌<◌, ◌≤◌, ◌-◌, ℕ, suc, List, [], ◌∷◌, ◌++◌, IfSome, MatchOption, Some, length, map, min, slice_get, true, false};
+ghost use Rattle.nest_tree.specs.Limits.{IsWithinLimits, most_work};
 ghost use Rattle.nest_tree.specs.Tree.{param_values};
 ghost use Rattle.nest_tree.specs.View.{tree_of};
 ghost use Rattle.nest_tree.specs.WellFormed.{IsWellFormed};
@@ -30,7 +31,7 @@ pub enum Boundary {
     Join,
 }
 
-/// What a processor does next.
+/// What comes next by counters alone.
 #[derive(Clone, Copy)]
 pub enum CounterNext<'a> {
     /// It sets its own counter to this number.
@@ -45,8 +46,8 @@ pub enum CounterNext<'a> {
     End,
 }
 
-/// What is left of a processor's turns: the posts and awaits of each boundary, and the instances
-/// that it owns. It takes no memory.
+/// What is left of a processor's turns by counters alone: the posts and awaits of each boundary, and
+/// the instances that it owns. It takes no memory.
 #[derive(Clone, Copy)]
 pub struct CounterTurns<'a> {
     pub(crate) program: &'a Program,
@@ -62,8 +63,9 @@ pub struct CounterTurns<'a> {
     pub(crate) boundary: Boundary,
     pub(crate) posts: bool,
     pub(crate) awaits: u64,
-    // the phase that begins behind the boundary
+    // the phase that begins behind the boundary, and the place of the static phase that was entered
     pub(crate) begins: Option<u64>,
+    pub(crate) place: u32,
     // the instance that comes next
     pub(crate) come: Option<Stop<'a>>,
 }
@@ -72,7 +74,7 @@ impl<'a> CounterTurns<'a> {
     ghost use Rattle.nest_walk.specs.RoundsOf.{rounds_of};
     ghost use Rattle.nest_walk.specs.Strips.{strip_left, strip_tree};
     ghost use Rattle.turns.specs.CounterTurns.{CounterTurn, awaits, begins, works, counter_turns, without_beginnings};
-    ghost use Rattle.turns.specs.CountersLeft.{AreSoundCounters, IsAct, IsCounterNext, StandsAt, at_turn, to_go, counters_boundary, counters_left, counters_plan, counters_processor, counters_rounds, counters_tree};
+    ghost use Rattle.turns.specs.CountersLeft.{AreSoundCounters, IsAct, IsBegun, IsCounterNext, StandsAt, at_turn, to_go, counters_boundary, counters_left, counters_plan, counters_processor, counters_rounds, counters_tree};
 
     // All turns of a processor.
     pub(crate) fn new(program: &'a Program, plan: &'a Plan, processor: u32) -> Self
@@ -87,6 +89,7 @@ impl<'a> CounterTurns<'a> {
         ensures program { counters_tree result ≡ tree_of program.now }
         ensures plan { counters_plan result ≡ plan.now }
         ensures processor { counters_processor result ≡ processor }
+        ensures few { length (phases_of (tree_of program.now) plan.now.cut.marks) ≤ most_work }
     {
         CounterTurns {
             program,
@@ -99,6 +102,7 @@ impl<'a> CounterTurns<'a> {
             posts: false,
             awaits: 0,
             begins: None,
+            place: 0,
             come: None,
         }
     }
@@ -135,6 +139,18 @@ impl<'a> CounterTurns<'a> {
             unreachable!()
         };
         phase
+    }
+
+    // The place of the static phase of the phase that begins next.
+    pub(crate) fn place(&self) -> u32
+        requires sound { AreSoundCounters self.now }
+        requires some { at_turn self.now ≡ true }
+        requires next { (e : ℕ) × (rest : List CounterTurn)
+            × (counters_left self.now ≡ begins e ∷ rest) }
+        ensures { (e : ℕ) → (rest : List CounterTurn) → counters_left self.now ≡ begins e ∷ rest
+            → IsBegun (counters_tree self.now) (counters_plan self.now) result (Some e) }
+    {
+        self.place
     }
 
     // What comes next. Nothing of what is left changes.
@@ -214,6 +230,7 @@ impl<'a> CounterTurns<'a> {
         self.number = phase.number - 1;
         self.boundary = boundary_before(self.plan, &phase);
         self.begins = Some(phase.number);
+        self.place = phase.place;
         let (posts, awaits) = waits_before(self.plan, &self.phases, phase.place, self.processor);
         self.posts = posts;
         self.awaits = awaits;

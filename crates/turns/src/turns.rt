@@ -24,7 +24,7 @@ use crate::pending::{first_pending, mark_first, mark_place};
 use nest_tree::{Item, Nest, Program};
 use nest_walk::{Path, Stop, Strip};
 use own_cells::{OWN_PLACES, OwnCells, is_final};
-use owner_partition::{Mark, PhaseCursor, Privates, StaticPhase};
+use owner_partition::{Mark, Privates, StaticPhase};
 use spmd_model::Style;
 use spmd_model::rounds::{awaited_in_round, rounds_of};
 use sync_plan::Plan;
@@ -75,8 +75,7 @@ pub struct Turns<'a> {
     // whether some phase has own scalars, and whether each phase is looked at as it begins
     has_own: bool,
     is_watched: bool,
-    // the phases that have begun, and the place of the last one's static phase
-    phases: PhaseCursor<'a>,
+    // the place of the static phase of the phase that has begun
     place: u32,
     // the own scalars of that, and its loop, where it has private ones
     own: OwnCells,
@@ -135,7 +134,6 @@ impl<'a> Turns<'a> {
             counters: CounterTurns::new(program, plan, processor),
             has_own,
             is_watched: is_watched(style, has_own),
-            phases: PhaseCursor::new(program, &plan.cut),
             place: NO_PHASE,
             own: OwnCells::none(),
             nest: None,
@@ -315,8 +313,8 @@ impl<'a> Turns<'a> {
         self.counters.peek()
     }
 
-    // Whether a counter turn that comes next is nothing here: a phase that begins, or the counters of a
-    // barrier that is passed by signals.
+    // Whether a counter turn that comes next is nothing here: a phase that begins, or of the counters
+    // of a barrier that is passed by signals.
     fn is_silent(&self, next: CounterNext<'a>) -> bool
         requires sound { AreSound self.now }
         requires looked { HasLooked self.now next }
@@ -408,13 +406,11 @@ impl<'a> Turns<'a> {
         ensures watched { self.new.is_watched ≡ true }
         ensures same { IsSameRun self.old self.new }
     {
-        let Some(phase) = self.phases.next() else {
-            unreachable!()
-        };
-        let by_signals = has_signals(self.style, self.plan, phase.place);
-        let (own, nest) = own_at(self.program, self.plan, self.has_own, phase.place);
+        let place = self.counters.place();
+        let by_signals = has_signals(self.style, self.plan, place);
+        let (own, nest) = own_at(self.program, self.plan, self.has_own, place);
         self.counters.pass();
-        self.place = phase.place;
+        self.place = place;
         self.own = own;
         self.nest = nest;
         self.pending = [false; OWN_PLACES];

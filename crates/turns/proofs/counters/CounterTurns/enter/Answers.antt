@@ -113,6 +113,7 @@ returns-clause-sound c =
             ∙ ap (boundary_at (counters_tree t) (counters_plan t)) (omega (arith, is.number_is));
         phase = ap (λ k. Some k) (omega (arith, is.number_is));
       };
+      begun = (v, ap (slice_get (phases (counters_tree t) (counters_plan t).cut.marks)) (omega (arith, is.number_is)) ∙ n.0, is.place_is);
       one = subst (IsOne (counters_tree t) (instances_rounds c.restart_own.new.own)) (sym none) tt;
     }
 

@@ -1,10 +1,15 @@
-use Rattle.std.proofs.Common.{suc, ◌++◌, map, false, ap, ◌∙◌}
+use Rattle.std.proofs.Common.{suc, ◌++◌, map, false, length, ap, ◌∙◌, arith}
 use Rattle.sync_plan.proofs.ProcessorSets.{members-zero}
 use Rattle.nest_tree.specs.View.{tree_of}
 use Rattle.nest_walk.specs.InstancesLeft.{instances_left}
 use Rattle.owner_partition.specs.PhasesLeft.{phases_left, phases_passed}
 use Rattle.turns.specs.CounterTurns.{works, boundary_turns, counter_turns}
 use Rattle.turns.proofs.counters.CounterTurns.new.Goals as goal
+
+pub returns-clause-few : goal.returns-clause-few
+returns-clause-few c =
+    let all = ap length c.new.ensures.phases in
+    omega (arith, all, c.new.result.counted)
 
 pub returns-clause-turns : goal.returns-clause-turns
 returns-clause-turns c =

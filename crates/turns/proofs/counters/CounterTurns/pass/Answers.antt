@@ -46,20 +46,20 @@ pub returns-then-self-clause-sound : goal.returns-then-self-clause-sound
 returns-then-self-clause-sound c =
     let t = c.args.self.now in
     let here = ap (λ b. b || not (t.awaits == 0)) c.if-self.true in
-    sound_less t c.requires.sound false t.awaits t.begins t.come (λ h. ((c.requires.sound.boundary here).phase, here)) c.requires.sound.one
+    sound_less t c.requires.sound false t.awaits t.begins t.come (λ h. ((c.requires.sound.boundary here).phase, here)) c.requires.sound.begun c.requires.sound.one
 
 pub returns-then-self-ne0-clause-sound : goal.returns-then-self-ne0-clause-sound
 returns-then-self-ne0-clause-sound c =
     let t = c.args.self.now in
     let here = some_word t.posts t.awaits (omega (arith, c.if-self-ne0.true)) in
-    sound_less t c.requires.sound t.posts _ t.begins t.come (λ h. ((c.requires.sound.boundary here).phase, here)) c.requires.sound.one
+    sound_less t c.requires.sound t.posts _ t.begins t.come (λ h. ((c.requires.sound.boundary here).phase, here)) c.requires.sound.begun c.requires.sound.one
 
 pub returns-then-is_some-clause-sound : goal.returns-then-is_some-clause-sound
 returns-then-is_some-clause-sound c =
     let t = c.args.self.now in
-    sound_less t c.requires.sound t.posts t.awaits None t.come (λ h. absurd (no_front t.posts t.awaits c.if-self.false c.if-self-ne0.false h)) c.requires.sound.one
+    sound_less t c.requires.sound t.posts t.awaits None t.come (λ h. absurd (no_front t.posts t.awaits c.if-self.false c.if-self-ne0.false h)) tt c.requires.sound.one
 
 pub returns-else-is_some-clause-sound : goal.returns-else-is_some-clause-sound
 returns-else-is_some-clause-sound c =
     let t = c.args.self.now in
-    sound_less t c.requires.sound t.posts t.awaits t.begins None (λ h. absurd (no_front t.posts t.awaits c.if-self.false c.if-self-ne0.false h)) tt
+    sound_less t c.requires.sound t.posts t.awaits t.begins None (λ h. absurd (no_front t.posts t.awaits c.if-self.false c.if-self-ne0.false h)) c.requires.sound.begun tt

@@ -1,17 +1,15 @@
-use Rattle.std.proofs.Common.{◌++◌, ◌*◌, suc, drop, length, refl, ap, sym, subst, ◌∙◌, arith}
+use Rattle.std.proofs.Common.{◌++◌, ◌*◌, length, refl, ap, sym, ◌∙◌, arith}
+use Rattle.std.proofs.lemmas.List.FromFn.{length-range_with_len}
 use Rattle.nest_tree.specs.View.{tree_of}
 use Rattle.nest_walk.proofs.CellPlaces.{few_cells}
 use Rattle.owner_partition.specs.Phases.{phases}
-use Rattle.owner_partition.specs.PhasesLeft.{phases_passed}
 use Rattle.own_cells.specs.OwnCells.{cells_of}
-use Rattle.turns.specs.CounterTurns.{counter_turns}
 use Rattle.turns.specs.CountersLeft.{counters_left}
 use Rattle.turns.specs.Turns.{beginnings, first_standing, no_phase, turns_by}
-use Rattle.turns.specs.TurnsLeft.{AreNumbered}
 use Rattle.turns.proofs.Beginnings.{all_begin}
 use Rattle.turns.proofs.KnownOwn.{few_none, none_past, past_phases}
 use Rattle.turns.proofs.Steps.{none_among}
-use Rattle.turns.proofs.TurnLists.{no_rounds, numbered_from}
+use Rattle.turns.proofs.TurnLists.{no_rounds}
 use Rattle.turns.proofs.turns.Turns.new.Goals as goal
 
 pub returns-clause-sound : goal.returns-clause-sound
@@ -20,7 +18,7 @@ returns-clause-sound c =
     let plan = c.args.plan.now in
     let all = phases tree plan.cut.marks in
     let none = none_past tree plan no_phase (past_phases tree plan c.requires.formed) in
-    let passed = c.new-2.ensures.passed in
+    let count = ap length (ap beginnings c.new.ensures.turns ∙ all_begin tree plan c.args.processor 1 all) ∙ length-range_with_len 1 (length all) in
     record {
       formed = c.requires.formed;
       fits = c.requires.fits;
@@ -41,13 +39,7 @@ returns-clause-sound c =
       all_steps = ap (λ n. n * 2) c.rounds_of-steps.ensures.rounds;
       within = omega arith;
       first_low = omega arith;
-      phases = λ w. record {
-        walked = c.new-2.ensures.program;
-        entered = c.new-2.ensures.enters;
-        behind = c.new-2.ensures.phases ∙ sym (ap (λ n. drop n all) passed);
-        numbered = subst (AreNumbered (length all) (suc (phases_passed c.new-2.result))) (sym c.new.ensures.turns) (subst (λ n. AreNumbered (length all) (suc n) (counter_turns tree plan c.args.processor 1 all)) (sym passed) (numbered_from tree plan c.args.processor (length all) 1 all (omega arith)));
-        few_barriers = omega arith;
-      };
+      few_barriers = λ w. omega (arith, count, c.new.ensures.few);
       unwatched = λ w. record { no_place = refl; none = refl; no_round = refl };
       arrives = λ w. refl;
     }

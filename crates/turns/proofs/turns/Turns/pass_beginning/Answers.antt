@@ -1,20 +1,18 @@
-use Rattle.std.proofs.Common.{◌≡◌, ◌∷◌, ◌+◌, ◌-◌, ◌*◌, ◌≤◌, suc, ℕ, Bool, true, false, true≢false, drop, length, if◌then◌else◌, ap, sym, subst, ◌∙◌, arith}
+use Rattle.std.proofs.Common.{◌≡◌, ◌∷◌, ◌+◌, ◌-◌, ◌*◌, ◌≤◌, suc, ℕ, Bool, Some, true, false, true≢false, length, if◌then◌else◌, ap, sym, subst, ◌∙◌, arith}
 use Rattle.std.specs.Int.{from_bool}
-use Rattle.std.specs.Prelude.{slice_get}
 use Rattle.std.proofs.Math.Nat.{mul-le-mul}
 use Rattle.nest_tree.specs.Limits.{most_work}
-use Rattle.owner_partition.specs.Phases.{phases}
-use Rattle.owner_partition.specs.PhasesLeft.{phases_left, phases_passed}
 use Rattle.sync_plan.specs.Own.{own_loop}
 use Rattle.own_cells.specs.OwnCells.{AreFew}
 use Rattle.turns.specs.CounterTurns.{begins}
-use Rattle.turns.specs.CountersLeft.{counters_left}
-use Rattle.turns.proofs.CounterLists.{next_phase}
+use Rattle.turns.specs.CountersLeft.{IsBegun, counters_left}
+use Rattle.turns.proofs.CounterLists.{some_turn}
 use Rattle.turns.specs.Turns.{has_signals, has_signals_at, place_of}
-use Rattle.turns.specs.TurnsLeft.{AreNumbered, turns_plan, turns_tree}
+use Rattle.turns.specs.TurnsLeft.{turns_plan, turns_tree}
+use Rattle.turns.proofs.Beginnings.{phase_begun}
 use Rattle.turns.proofs.KnownOwn.{few_own, signals_at}
 use Rattle.spmd_model.proofs.RoundCounts.{few_rounds}
-use Rattle.turns.proofs.Steps.{begin_passed, none_among}
+use Rattle.turns.proofs.Steps.{begin_passed, begun_here, none_among}
 use Rattle.turns.proofs.turns.Turns.pass_beginning.Goals.{then-by_signals, else-by_signals}
 use Rattle.turns.proofs.turns.Turns.pass_beginning.Goals as goal
 
@@ -26,20 +24,31 @@ with_bit : (b : Bool) (n : ℕ) → n + from_bool b ≡ (if b then suc n else n)
 with_bit true n = omega arith
 with_bit false n = omega arith
 
+pub place-place-requires-clause-some : goal.place-place-requires-clause-some
+place-place-requires-clause-some c =
+    let b = c.requires.begins in
+    some_turn c.args.self.now.counters (begins b.phase) b.rest b.begins_next b.end
+
+pub place-place-requires-clause-next : goal.place-place-requires-clause-next
+place-place-requires-clause-next c =
+    let b = c.requires.begins in (b.phase, b.rest, b.begins_next)
+
+-- the phase that begins, by the place of its static phase
 pub own_at-own-requires-clause-few : goal.own_at-own-requires-clause-few
 own_at-own-requires-clause-few c =
     let s = c.args.self.now in
     let sound = c.requires.sound in
-    let (v, left, last, is) = c.in-Some.ensures.phase in
-    let n = next_phase (turns_tree s) (turns_plan s) (phases_passed s.phases) (phases_left s.phases) (phases_left c.next.new.self) v (sound.phases c.requires.watched).behind left in
-    subst (λ k. AreFew (turns_tree s) (own_loop (turns_tree s) (turns_plan s) k)) (sym is.place_is) (few_own (turns_tree s) (turns_plan s) (phases_passed s.phases) v sound.formed sound.fits n.0)
+    let b = c.requires.begins in
+    let (v, at, place_is) = begun_here s sound c.place-place.result b.phase (c.place-place.ensures b.phase b.rest b.begins_next) in
+    subst (λ k. AreFew (turns_tree s) (own_loop (turns_tree s) (turns_plan s) k)) (sym place_is) (few_own (turns_tree s) (turns_plan s) (b.phase - 1) v sound.formed sound.fits at)
 
 pub overflow_mul-self : goal.overflow_mul-self
 overflow_mul-self c =
     let s = c.args.self.now in
     let few = few_rounds (turns_plan s).workers in
     let half : c.from.result ≤ 6 = omega (arith, few, c.requires.sound.all_steps, c.from.ensures) in
-    let low : s.barriers ≤ most_work = omega (arith, (c.requires.sound.phases c.requires.watched).few_barriers, s.phases.counted) in
+    let barriers = c.requires.sound.few_barriers c.requires.watched in
+    let low : s.barriers ≤ most_work = omega (arith, barriers) in
     let product : s.barriers * c.from.result ≤ most_work * 6 = mul-le-mul low half in
     omega (arith, product)
 
@@ -48,7 +57,8 @@ overflow_add-self c =
     let s = c.args.self.now in
     let few = few_rounds (turns_plan s).workers in
     let half : c.from.result ≤ 6 = omega (arith, few, c.requires.sound.all_steps, c.from.ensures) in
-    let low : s.barriers ≤ most_work = omega (arith, (c.requires.sound.phases c.requires.watched).few_barriers, s.phases.counted) in
+    let barriers = c.requires.sound.few_barriers c.requires.watched in
+    let low : s.barriers ≤ most_work = omega (arith, barriers) in
     let product : s.barriers * c.from.result ≤ most_work * 6 = mul-le-mul low half in
     omega (arith, product)
 
@@ -65,23 +75,17 @@ module _ (c : goal.After-self-6-1) where
       let same : c.requires.begins.rest ≡ counters_left c.pass.new.self = cc in
       c.requires.begins.begins_next ∙ ap (λ r. begins c.requires.begins.phase ∷ r) same
 
-  numbered : AreNumbered (length (phases (turns_tree c.args.self.now) (turns_plan c.args.self.now).cut.marks)) (suc (phases_passed c.args.self.now.phases)) (begins c.requires.begins.phase ∷ counters_left c.pass.new.self)
-  numbered =
-      let s = c.args.self.now in
-      subst (AreNumbered (length (phases (turns_tree s) (turns_plan s).cut.marks)) (suc (phases_passed s.phases))) begins_is (c.requires.sound.phases c.requires.watched).numbered
-
 pub returns-clause-sound : goal.returns-clause-sound
 returns-clause-sound c =
     let s = c.args.self.now in
     let sound = c.requires.sound in
-    let all = phases (turns_tree s) (turns_plan s).cut.marks in
-    let p = sound.phases c.requires.watched in
-    let (v, left, last, is) = c.in-Some.ensures.phase in
-    let n = next_phase (turns_tree s) (turns_plan s) (phases_passed s.phases) (phases_left s.phases) (phases_left c.next.new.self) v p.behind left in
-    let more : suc (phases_passed s.phases) ≡ phases_passed c.next.new.self = omega (arith, c.in-Some.ensures.passed) in
+    let b = c.requires.begins in
+    let barriers = sound.few_barriers c.requires.watched in
+    let (v, at, place_is) = begun_here s sound c.place-place.result b.phase (c.place-place.ensures b.phase b.rest b.begins_next) in
+    let one_less = ap length (phase_begun (counters_left s.counters) b.rest (counters_left c.pass.new.self) b.phase c.pass.ensures.passed.0 b.begins_next c.pass.ensures.passed.1) in
     let few = few_rounds (turns_plan s).workers in
     let half : c.from.result ≤ 6 = omega (arith, few, sound.all_steps, c.from.ensures) in
-    let low : s.barriers ≤ most_work = omega (arith, p.few_barriers, s.phases.counted) in
+    let low : s.barriers ≤ most_work = omega (arith, barriers) in
     let product : s.barriers * c.from.result ≤ most_work * 6 = mul-le-mul low half in
     let step = step_is c in
     record {
@@ -96,7 +100,7 @@ returns-clause-sound c =
       has = sound.has;
       watched = sound.watched;
       own = record {
-        few = subst (λ k. AreFew (turns_tree s) (own_loop (turns_tree s) (turns_plan s) k)) (sym is.place_is) (few_own (turns_tree s) (turns_plan s) (phases_passed s.phases) v sound.formed sound.fits n.0);
+        few = subst (λ k. AreFew (turns_tree s) (own_loop (turns_tree s) (turns_plan s) k)) (sym place_is) (few_own (turns_tree s) (turns_plan s) (b.phase - 1) v sound.formed sound.fits at);
         cells = c.own_at-own.ensures.cells;
         loop = c.own_at-own.ensures.nest;
         among = λ k at. none_among k at;
@@ -104,16 +108,10 @@ returns-clause-sound c =
       all_steps = sound.all_steps;
       within = low_step c.has_signals-by_signals.result s.steps c.if-by_signals.self step;
       first_low = omega (arith, product);
-      phases = λ w. record {
-        walked = c.next.ensures.program ∙ p.walked;
-        entered = c.next.ensures.enters ∙ p.entered;
-        behind = sym n.1 ∙ ap (λ k. drop k all) more;
-        numbered = subst (λ k. AreNumbered (length all) (suc k) (counters_left c.pass.new.self)) more (numbered c).2;
-        few_barriers = omega (arith, p.few_barriers, more, c.from-2.ensures, one_bit c.has_signals-by_signals.result);
-      };
+      few_barriers = λ w. let bit = one_bit c.has_signals-by_signals.result in omega (arith, barriers, one_less, c.from-2.ensures, bit);
       unwatched = λ w. absurd (true≢false (sym c.requires.watched ∙ w));
       arrives = λ w.
-          let off : c.has_signals-by_signals.result ≡ false = c.has_signals-by_signals.ensures ∙ ap (λ t. has_signals_at t (turns_plan s) c.in-Some.phase.place) w in
+          let off : c.has_signals-by_signals.result ≡ false = c.has_signals-by_signals.ensures ∙ ap (λ t. has_signals_at t (turns_plan s) c.place-place.result) w in
           step ∙ ap (λ b. if b then 0 else s.steps) off;
     }
   where
@@ -126,12 +124,9 @@ returns-clause-left c =
     let s = c.args.self.now in
     let sound = c.requires.sound in
     let plan = turns_plan s in
-    let all = phases (turns_tree s) plan.cut.marks in
-    let (v, left, last, is) = c.in-Some.ensures.phase in
-    let n = next_phase (turns_tree s) plan (phases_passed s.phases) (phases_left s.phases) (phases_left c.next.new.self) v (sound.phases c.requires.watched).behind left in
-    let e = c.requires.begins.phase in
-    let index : e - 1 ≡ phases_passed s.phases = omega (arith, (numbered c).0) in
-    let place = ap (λ k. place_of (slice_get all k)) index ∙ ap place_of n.0 ∙ sym is.place_is in
-    let signals = ap (λ k. has_signals s.style plan (slice_get all k)) index ∙ ap (has_signals s.style plan) n.0 ∙ signals_at s.style plan v ∙ ap (has_signals_at s.style plan) (sym is.place_is) ∙ sym c.has_signals-by_signals.ensures in
-    begin_passed s c.pass.new.self e c.in-Some.phase.place (s.barriers * c.from.result + 1) c.if-by_signals.self (s.barriers + c.from-2.result) c.has_signals-by_signals.result c.requires.begins.rounds c.requires.begins.none (begins_is c) (sym sound.watched ∙ c.requires.watched)
+    let b = c.requires.begins in
+    let (v, at, place_is) = begun_here s sound c.place-place.result b.phase (c.place-place.ensures b.phase b.rest b.begins_next) in
+    let place = ap place_of at ∙ sym place_is in
+    let signals = ap (has_signals s.style plan) at ∙ signals_at s.style plan v ∙ ap (has_signals_at s.style plan) (sym place_is) ∙ sym c.has_signals-by_signals.ensures in
+    begin_passed s c.pass.new.self b.phase c.place-place.result (s.barriers * c.from.result + 1) c.if-by_signals.self (s.barriers + c.from-2.result) c.has_signals-by_signals.result b.rounds b.none (begins_is c) (sym sound.watched ∙ c.requires.watched)
     sound.all_steps place signals (ap (λ k. s.barriers * k + 1) c.from.ensures) (step_is c) (ap (λ k. s.barriers + k) c.from-2.ensures ∙ with_bit c.has_signals-by_signals.result s.barriers)

@@ -1,10 +1,9 @@
-use Rattle.std.proofs.Common.{suc, length, [], ◌∷◌, ◌++◌, if◌then◌else◌, refl, ap, sym, ◌∙◌}
-use Rattle.owner_partition.specs.Phases.{phases}
-use Rattle.owner_partition.specs.PhasesLeft.{phases_passed}
+use Rattle.std.proofs.Common.{length, [], ◌∷◌, ◌++◌, if◌then◌else◌, refl, ap, sym, ◌∙◌, arith}
 use Rattle.turns.specs.CountersLeft.{counters_left}
 use Rattle.turns.specs.Turns.{none_pending}
-use Rattle.turns.specs.TurnsLeft.{turns_left, turns_plan, turns_tree}
-use Rattle.turns.proofs.Steps.{counter_passed, moved, no_beginning, none_among, numbered_tail}
+use Rattle.turns.specs.TurnsLeft.{turns_left}
+use Rattle.turns.proofs.Beginnings.{counter_begun}
+use Rattle.turns.proofs.Steps.{counter_passed, moved, none_among}
 use Rattle.turns.proofs.turns.Turns.pass_counters.Goals as goal
 
 pub returns-clause-sound : goal.returns-clause-sound
@@ -12,9 +11,9 @@ returns-clause-sound c =
     let s = c.args.self.now in
     let n = c.requires.next in
     let passed = c.pass.ensures.passed in
+    let same = ap length (counter_begun (counters_left s.counters) (counters_left c.pass.new.self) n.number passed.0 n.counter passed.1) in
     moved s c.pass.new.self none_pending c.requires.sound c.pass.ensures.sound c.pass.ensures.program c.pass.ensures.plan c.pass.ensures.processor (λ k is. none_among k is)
-    (λ w. numbered_tail (length (phases (turns_tree s) (turns_plan s).cut.marks)) (suc (phases_passed s.phases)) (counters_left s.counters) (counters_left c.pass.new.self) passed.0 passed.1 (no_beginning s c.pass.new.self n.rounds n.none (counters_left s.counters) n.number passed.0 n.counter passed.1) (c.requires.sound.phases w).numbered)
-    (λ w. refl)
+    (λ w. let few = c.requires.sound.few_barriers w in omega (arith, same, few)) (λ w. refl)
 
 pub returns-clause-silent : goal.returns-clause-silent
 returns-clause-silent c = λ number of is.
