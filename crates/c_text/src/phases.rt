@@ -126,17 +126,13 @@ impl Text<'_> {
 
     // What stands in front of a phase, as in a plan.
     fn kind(&mut self, kind: &Option<Kind>) -> Result<(), AllocError> {
-        match kind {
-            None | Some(Kind::Nothing) => self.words(" NOTHING"),
-            Some(Kind::Left) => self.words(" LEFT"),
-            Some(Kind::Right) => self.words(" RIGHT"),
-            Some(Kind::Both) => self.words(" BOTH"),
-            Some(Kind::Barrier) => self.words(" BARRIER"),
-            Some(Kind::Join) => self.words(" JOIN"),
-            Some(Kind::Producer(anchor)) => {
-                self.words(" PRODUCER")?;
-                self.anchor(anchor)
-            }
+        let Some(kind) = kind else {
+            return self.words(" NOTHING");
+        };
+        write!(self.out, " {}", kind.word())?;
+        match kind.anchor() {
+            Some(anchor) => self.anchor(anchor),
+            None => Ok(()),
         }
     }
 

@@ -79,9 +79,9 @@ fn push_waits(text: &mut Vec<u8>, kinds: &[Kind]) -> Result<(), AllocError> {
     let mut producers = 0u32;
     for kind in kinds {
         match kind {
-            Kind::Left | Kind::Right | Kind::Both => neighbours = neighbours.saturating_add(1),
-            Kind::Producer(_) => producers = producers.saturating_add(1),
             Kind::Nothing | Kind::Barrier | Kind::Join => {}
+            Kind::Producer(_) => producers = producers.saturating_add(1),
+            _ => neighbours = neighbours.saturating_add(1),
         }
     }
     push_part(text, b"; waits for neighbours: ", i128::from(neighbours))?;

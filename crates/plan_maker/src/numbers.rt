@@ -49,9 +49,8 @@ fn read_anchors(anchors: &[Anchor])
 fn read_kind(kind: &Kind)
     ensures { IsTrue (is_kind_shown kind.now) }
 {
-    match kind {
-        Kind::Producer(anchor) => read_anchor(anchor),
-        Kind::Nothing | Kind::Left | Kind::Right | Kind::Both | Kind::Barrier | Kind::Join => {}
+    if let Some(anchor) = kind.anchor() {
+        read_anchor(anchor);
     }
 }
 

@@ -12,7 +12,8 @@ use Rattle.owner_partition.specs.declared.anchor.Dist.TheVariants.{Block, Cyclic
 use Rattle.sync_plan.specs.declared.plan.ConditionRow.{ConditionRow}
 use Rattle.sync_plan.specs.declared.plan.Kind.{Kind}
 use Rattle.sync_plan.specs.declared.plan.Kind.TheVariants.{Nothing, Producer, Left, Right, Both, Barrier, Join}
-use Rattle.plan_text.specs.Loose.{after_star, anchor_of, before_star, both, dist_of, form_of, is_at, kept, kind_of, last_word, loop_of, narrow_of, negated, number_32, number_64, number_of, pair_behind, pairs_of, phase_of, plain_kind, private_of, row_of, signed_of, step_of, term_of, word_at}
+use Rattle.sync_plan.specs.Kinds.{plain_kind}
+use Rattle.plan_text.specs.Loose.{after_star, anchor_of, before_star, both, dist_of, form_of, is_at, kept, kind_of, last_word, loop_of, narrow_of, negated, number_32, number_64, number_of, pair_behind, pairs_of, phase_of, private_of, row_of, signed_of, step_of, term_of, word_at}
 use Rattle.plan_text.specs.PlanText.{is_128, is_32, is_64, is_anchor_shown, is_dist_shown, is_form_shown, is_kind_shown, is_phase_shown, is_row_shown, is_step_shown}
 
 shown-32 : (w : List ℕ) → is_32 (number_32 w) ≡ true

@@ -17,7 +17,8 @@ use Rattle.sync_plan.specs.declared.plan.Version.{Version}
 use Rattle.sync_plan.specs.declared.plan.Version.TheVariants.{One, Two, Three, Four, Five}
 use Rattle.plan_text.specs.PlanText.{is_32}
 use Rattle.plan_text.specs.Words.{count_line, version_line}
-use Rattle.sync_plan.specs.declared.plan.Kind.TheVariants.{Nothing, Producer, Left, Right, Both, Barrier, Join}
+use Rattle.sync_plan.specs.Kinds.{plain_kind}
+use Rattle.sync_plan.specs.declared.plan.Kind.TheVariants.{Producer}
 
 -- the words of a line
 abbrev pub words_of : List ℕ → List (List ℕ)
@@ -107,16 +108,7 @@ private_of word = number_32 (drop 1 word)
 abbrev pub loop_of : List (List ℕ) → Mark × List ℕ
 loop_of words = (mark_of (word_at 1 words), map private_of (drop 3 words))
 
--- a kind, where it isn't Producer
-abbrev pub plain_kind : List ℕ → Kind
-plain_kind word =
-    if bytes_eq word (codes "NOTHING") then Nothing
-    else if bytes_eq word (codes "LEFT") then Left
-    else if bytes_eq word (codes "RIGHT") then Right
-    else if bytes_eq word (codes "BOTH") then Both
-    else if bytes_eq word (codes "BARRIER") then Barrier
-    else Join
-
+-- a kind
 abbrev pub kind_of : List (List ℕ) → Option Kind
 kind_of words = if bytes_eq (word_at 0 words) (codes "PRODUCER") then option_map Producer (anchor_of (drop 1 words)) else Some (plain_kind (word_at 0 words))
 

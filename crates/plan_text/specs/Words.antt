@@ -2,6 +2,7 @@
 use Rattle.std.specs.Prelude.{ℕ, ℤ, List, [], ◌∷◌, ◌++◌, map, codes}
 use Rattle.std.specs.Fmt.{decimal, signed_decimal}
 use Rattle.std.specs.List.{flat_map}
+use Rattle.std.specs.Option.{option_map_or}
 use Rattle.farkas_cert.specs.declared.certificate.Step.{Step}
 use Rattle.nest_tree.specs.Form.{Form}
 use Rattle.owner_partition.specs.declared.anchor.Anchor.{Anchor}
@@ -9,9 +10,9 @@ use Rattle.owner_partition.specs.declared.anchor.Dist.{Dist}
 use Rattle.owner_partition.specs.declared.anchor.Dist.TheVariants.{Block, Cyclic}
 use Rattle.owner_partition.specs.declared.cut.Mark.{Mark}
 use Rattle.owner_partition.specs.declared.cut.Mark.TheVariants.{Outer, Doall, Single, Inner, Sum}
+use Rattle.sync_plan.specs.Kinds.{anchor_in, kind_word}
 use Rattle.sync_plan.specs.declared.plan.ConditionRow.{ConditionRow}
 use Rattle.sync_plan.specs.declared.plan.Kind.{Kind}
-use Rattle.sync_plan.specs.declared.plan.Kind.TheVariants.{Nothing, Producer, Left, Right, Both, Barrier, Join}
 use Rattle.sync_plan.specs.declared.plan.Version.{Version}
 use Rattle.sync_plan.specs.declared.plan.Version.TheVariants.{One, Two, Three, Four, Five}
 
@@ -60,13 +61,7 @@ private_words [] = []
 private_words (v ∷ vs) = codes "PRIVATE" ∷ map private_word (v ∷ vs)
 
 abbrev pub kind_words : Kind → List (List ℕ)
-kind_words Nothing = codes "NOTHING" ∷ []
-kind_words (Producer a) = codes "PRODUCER" ∷ anchor_words a
-kind_words Left = codes "LEFT" ∷ []
-kind_words Right = codes "RIGHT" ∷ []
-kind_words Both = codes "BOTH" ∷ []
-kind_words Barrier = codes "BARRIER" ∷ []
-kind_words Join = codes "JOIN" ∷ []
+kind_words kind = kind_word kind ∷ option_map_or anchor_words (anchor_in kind) []
 
 -- the lines of the version, of a count, and the numbered ones of a loop, a phase, a row of conditions and a certificate; and that of a step
 abbrev pub version_digit : Version → List ℕ

@@ -143,23 +143,11 @@ pub fn put_kind(out: &mut Vec<u8>, kind: &Kind) -> Result<(), AllocError>
     ensures { OnOk result (out.new.items ≡ out.old.items
         ++ spec.spaced (spec.kind_words kind.now)) }
 {
-    match kind {
-        Kind::Nothing => put_word(out, b"NOTHING"),
-        Kind::Producer(anchor) => put_producer(out, anchor),
-        Kind::Left => put_word(out, b"LEFT"),
-        Kind::Right => put_word(out, b"RIGHT"),
-        Kind::Both => put_word(out, b"BOTH"),
-        Kind::Barrier => put_word(out, b"BARRIER"),
-        Kind::Join => put_word(out, b"JOIN"),
+    put_word(out, kind.word().as_bytes())?;
+    match kind.anchor() {
+        Some(anchor) => put_anchor(out, anchor),
+        None => Ok(()),
     }
-}
-
-fn put_producer(out: &mut Vec<u8>, anchor: &Anchor) -> Result<(), AllocError>
-    ensures { OnOk result (out.new.items ≡ out.old.items
-        ++ spec.spaced (codes "PRODUCER" ∷ spec.anchor_words anchor.now)) }
-{
-    put_word(out, b"PRODUCER")?;
-    put_anchor(out, anchor)
 }
 
 fn put_anchor(out: &mut Vec<u8>, anchor: &Anchor) -> Result<(), AllocError>

@@ -269,31 +269,12 @@ fn behind_third<'a, 'b>(words: &'b [&'a [u8]]) -> &'b [&'a [u8]]
     }
 }
 
-// The kind that a word names, where it isn't Producer.
-fn plain_kind(word: &[u8]) -> Kind
-    ensures { result ≡ spec.plain_kind word.now }
-{
-    if is_same(word, b"NOTHING") {
-        Kind::Nothing
-    } else if is_same(word, b"LEFT") {
-        Kind::Left
-    } else if is_same(word, b"RIGHT") {
-        Kind::Right
-    } else if is_same(word, b"BOTH") {
-        Kind::Both
-    } else if is_same(word, b"BARRIER") {
-        Kind::Barrier
-    } else {
-        Kind::Join
-    }
-}
-
 fn kind_of(alloc: Global, words: &[&[u8]]) -> Result<Option<Kind>, AllocError>
     ensures { IfOk result (λ kind. kind ≡ spec.kind_of (map (λ w. w.now) words.now)) }
 {
     let word = word_at(words, 0);
     if !is_same(word, b"PRODUCER") {
-        return Ok(Some(plain_kind(word)));
+        return Ok(Some(Kind::plain(word)));
     }
     let anchor = anchor_of(alloc, behind_first(words))?;
     Ok(anchor.map(Kind::Producer))

@@ -3,8 +3,8 @@ use Rattle.std.specs.Prelude.{ℕ, suc, ◌≡◌, nat_lt, MatchBool, List, [], 
 use Rattle.std.specs.List.{AllZip, filter}
 use Rattle.farkas_cert.specs.declared.certificate.CertRefusal.{CertRefusal}
 use Rattle.nest_tree.specs.Tree.{Tree}
+use Rattle.sync_plan.specs.Kinds.{strength}
 use Rattle.sync_plan.specs.declared.plan.Kind.{Kind}
-use Rattle.sync_plan.specs.declared.plan.Kind.TheVariants.{Barrier, Both, Join, Left, Nothing, Producer, Right}
 use Rattle.sync_plan.specs.declared.plan.Plan.{Plan}
 use Rattle.comm_system.specs.Obligations.{obligations_of, tasks_of}
 use Rattle.maker_candidates.specs.Candidates.{candidates_in}
@@ -106,15 +106,6 @@ pub record IsMadeAccount (tree : Tree) (workers : ℕ) (a : Account) : Type 0 wh
   pub told : AreAnswers tree a (made_questions reasons)
 
 -- what is asked of a plan that is given and accepted: of each loop that is Outer or Single each try, and in front of each phase each candidate that is weaker than what stands there
-abbrev pub strength : Kind → ℕ
-strength Nothing = 0
-strength (Producer a) = 1
-strength Left = 2
-strength Right = 2
-strength Both = 3
-strength Barrier = 4
-strength Join = 5
-
 abbrev pub weaker_than : Kind → List Kind → List Kind
 weaker_than kind candidates = filter (λ k. nat_lt (strength k) (strength kind)) candidates
 

@@ -3,7 +3,7 @@ use Rattle.std.specs.Prelude.{ℕ, List, ◌++◌, ◌∷◌, [], length, filter
 use Rattle.std.specs.Fmt.{decimal}
 use Rattle.std.specs.Str.{bytes_eq}
 use Rattle.sync_plan.specs.declared.plan.Kind.{Kind}
-use Rattle.sync_plan.specs.declared.plan.Kind.TheVariants.{Nothing, Producer, Left, Right, Both, Barrier, Join}
+use Rattle.sync_plan.specs.Kinds.{all_words, kind_word}
 use Rattle.sync_plan.specs.declared.plan.Plan.{Plan}
 use Rattle.plan_text.specs.PlanText.{text_of}
 
@@ -28,16 +28,6 @@ bench_lines points sweeps =
 
 abbrev pub bench_source : ℕ → ℕ → List ℕ
 bench_source points sweeps = text_of (bench_lines points sweeps)
-
--- what a kind of wait is called
-abbrev pub kind_word : Kind → List ℕ
-kind_word Nothing = codes "NOTHING"
-kind_word (Producer anchor) = codes "PRODUCER"
-kind_word Left = codes "LEFT"
-kind_word Right = codes "RIGHT"
-kind_word Both = codes "BOTH"
-kind_word Barrier = codes "BARRIER"
-kind_word Join = codes "JOIN"
 
 -- how many waits are called so
 abbrev pub waits_called : List ℕ → List Kind → ℕ

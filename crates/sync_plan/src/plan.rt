@@ -72,8 +72,8 @@ pub enum Kind {
 
 impl Kind {
     ghost use Rattle.std.specs.Option.{option_copied};
-    ghost use Rattle.std.specs.Prelude.{IfOk};
-    ghost use Rattle.sync_plan.specs.Kinds.{anchor_in};
+    ghost use Rattle.std.specs.Prelude.{IfOk, map};
+    ghost use Rattle.sync_plan.specs.Kinds.{all_words, anchor_in, kind_word, plain_kind, strength};
 
     /// The anchor of the owner that is waited for. Only a producer has one.
     pub fn anchor(&self) -> Option<&Anchor>
@@ -83,6 +83,64 @@ impl Kind {
             Kind::Producer(anchor) => Some(anchor),
             Kind::Nothing | Kind::Left | Kind::Right | Kind::Both => None,
             Kind::Barrier | Kind::Join => None,
+        }
+    }
+
+    /// What it is called in a plan.
+    pub fn word(&self) -> &'static str
+        ensures { result.now ≡ kind_word self.now }
+    {
+        match self {
+            Kind::Nothing => "NOTHING",
+            Kind::Producer(_) => "PRODUCER",
+            Kind::Left => "LEFT",
+            Kind::Right => "RIGHT",
+            Kind::Both => "BOTH",
+            Kind::Barrier => "BARRIER",
+            Kind::Join => "JOIN",
+        }
+    }
+
+    /// What the kinds are called, from the weakest on.
+    pub fn words() -> [&'static str; 7]
+        ensures { map (λ w. w.now) result ≡ all_words }
+    {
+        [
+            "NOTHING", "PRODUCER", "LEFT", "RIGHT", "BOTH", "BARRIER", "JOIN",
+        ]
+    }
+
+    /// The kind without an anchor that a word names, `Join` where no other is called so.
+    pub fn plain(word: &[u8]) -> Kind
+        ensures { result ≡ plain_kind word.now }
+    {
+        if word == b"NOTHING" {
+            Kind::Nothing
+        } else if word == b"LEFT" {
+            Kind::Left
+        } else if word == b"RIGHT" {
+            Kind::Right
+        } else if word == b"BOTH" {
+            Kind::Both
+        } else if word == b"BARRIER" {
+            Kind::Barrier
+        } else {
+            Kind::Join
+        }
+    }
+
+    /// How strong a wait is, from 0 for `Nothing` to 5 for `Join`. Of two the weaker one waits for
+    /// no more.
+    pub fn strength(&self) -> u32
+        ensures { result ≡ strength self.now }
+    {
+        match self {
+            Kind::Nothing => 0,
+            Kind::Producer(_) => 1,
+            Kind::Left | Kind::Right => 2,
+            Kind::Both => 3,
+            Kind::Barrier => 4,
+            Kind::Join => 5,
         }
     }
 

@@ -9,7 +9,8 @@ use Rattle.comm_system.specs.Signatures.{has_places_in}
 use Rattle.maker_candidates.specs.Candidates.{candidates_in}
 use Rattle.maker_candidates.proofs.Lists.{candidates_long}
 use Rattle.plan_maker.proofs.Fresh.{all_have}
-use Rattle.reason_witness.specs.Reasons.{kind_question, strength, weaker_questions, weaker_than}
+use Rattle.sync_plan.specs.Kinds.{strength}
+use Rattle.reason_witness.specs.Reasons.{kind_question, weaker_questions, weaker_than}
 use Rattle.reason_witness.proofs.Questions.{all_filtered, shape_fits, weaker_all, weaker_more}
 use Rattle.reason_witness.proofs.asked.given_phases.Goals as goal
 
