@@ -12,8 +12,6 @@
 //!   obligation that one of them makes no trip.
 //! - [`group`], [`groups`], [`obligations`]: the obligations of a plan, and in groups, each of which
 //!   can be made without the others.
-//! - [`laws`]: which slots a kind's change changes; what solves the systems, and that
-//!   where nothing does, the plan is ordered.
 //!
 //! The definitions are in `specs/`: the accesses of a phase (`References`), which two conflict
 //! (`Pairs`), levels and the boundaries that are certain at one (`Levels`, `Boundaries`), what a
@@ -25,7 +23,6 @@ pub mod boundary;
 pub mod group;
 pub mod groups;
 pub mod in_place;
-pub mod laws;
 pub mod obligation;
 pub mod obligations;
 pub mod own;
@@ -46,8 +43,4 @@ pub mod subject;
 pub mod waits;
 
 pub use conflict_rules::{conflict, level, producer, reference};
-pub use laws::{
-    groups_make_obligations, meeting_owners_solve, meeting_trips_solve, obligations_order,
-    slots_see_certain_boundaries,
-};
 pub use obligation::{Obligation, Topic};

@@ -19,9 +19,9 @@ use Rattle.sync_plan.specs.Shape.{are_good_privates, has_good_privates, have_goo
 use Rattle.comm_system.specs.Obligations.{zero_trip_task}
 use Rattle.comm_system.specs.Paths.{PathLoop, path_of, path_to, paths_of}
 use Rattle.comm_system.specs.References.{StaticPhase, phases_of}
-use Rattle.comm_system.proofs.FirstStores.{first_store, path_among, path_in}
-use Rattle.comm_system.proofs.GoodReferences.{AllIn, among_phases}
-use Rattle.comm_system.proofs.FirstAccesses.{stored_there}
+use Rattle.comm_laws.proofs.FirstStores.{first_store, path_among, path_in}
+use Rattle.comm_laws.proofs.GoodReferences.{AllIn, among_phases}
+use Rattle.comm_laws.proofs.FirstAccesses.{stored_there}
 use Rattle.obligation_numbers.proofs.Counted.{ArePathsCounted}
 use Rattle.obligation_numbers.proofs.StoredFirst.{good_among, good_parts, shape_privates}
 

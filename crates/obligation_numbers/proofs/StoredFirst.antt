@@ -19,8 +19,8 @@ use Rattle.sync_plan.specs.declared.plan.Version.{Version}
 use Rattle.sync_plan.specs.Shape.{are_good_anchors, are_good_conditions, are_good_kinds, are_good_privates, are_marked_well, do_rise, has_good_privates, has_privates, have_good_privates, have_good_sums, is_privately_good, static_phases, wrong_field}
 use Rattle.sync_plan.proofs.Fits.{field_right}
 use Rattle.comm_system.specs.References.{Reference, StaticPhase, phases_among, phases_in, phases_of, reference_of, references_in, variable_of}
-use Rattle.comm_system.proofs.FirstStores.{first_store, path_among, store_first, stored_rank}
-use Rattle.comm_system.proofs.GoodReferences.{AllIn, among_phases, stored_good}
+use Rattle.comm_laws.proofs.FirstStores.{first_store, path_among, store_first, stored_rank}
+use Rattle.comm_laws.proofs.GoodReferences.{AllIn, among_phases, stored_good}
 use Rattle.obligation_numbers.proofs.Counted.{AreStoredFirst}
 use Rattle.obligation_numbers.proofs.SeenSums.{first_stores}
 

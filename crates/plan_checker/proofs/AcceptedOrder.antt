@@ -13,7 +13,7 @@ use Rattle.sync_plan.specs.Stored.{AreStoredFirst}
 use Rattle.comm_system.specs.Obligations.{obligations_of}
 use Rattle.comm_system.specs.declared.obligation.Obligation.{Obligation}
 use Rattle.comm_system.proofs.Lists.{contains_cases, contains_nothing}
-use Rattle.comm_system.proofs.ObligationOrder.{ordered_by, stored_by}
+use Rattle.comm_laws.proofs.ObligationOrder.{ordered_by, stored_by}
 use Rattle.plan_checker.specs.Accepted.{AreCertified, IsAccepted}
 
 -- an obligation with a good certificate has no whole solution

@@ -28,8 +28,8 @@ use Rattle.comm_system.specs.Paths.{PathLoop, line_of, loops_from, loops_outside
 use Rattle.comm_system.specs.References.{Reference, StaticPhase, phases_among, reference_of, references_in, references_of, variable_of}
 use Rattle.comm_system.specs.Shown.{is_own_in, privates_in, shared_of, shown_of}
 use Rattle.comm_system.specs.Signatures.{Signature, blocked, waits}
-use Rattle.comm_system.proofs.GoodReferences.{AllIn, among_phases}
-use Rattle.comm_system.proofs.PairLists.{shown_good}
+use Rattle.comm_laws.proofs.GoodReferences.{AllIn, among_phases}
+use Rattle.comm_laws.proofs.PairLists.{shown_good}
 
 -- ---- lists
 

@@ -24,8 +24,8 @@ use Rattle.comm_system.specs.Levels.{common, levels}
 use Rattle.comm_system.specs.Obligations.{Slot, Task, numbered_from, obligations_of, paths_tasks, slot_signature, slot_tasks, slots_before, slots_between, slots_from, slots_of, trips_tasks}
 use Rattle.comm_system.specs.References.{StaticPhase, phases_of}
 use Rattle.comm_system.specs.Signatures.{blocked, waits, counted, is_barrier, kind_at, last_three, left_waits, or_nothing, producers_at, right_waits, signature_of}
-use Rattle.comm_system.proofs.Slots.{slot_at}
-use Rattle.comm_system.proofs.Zips.{same_among, stop_at}
+use Rattle.comm_laws.proofs.Slots.{slot_at}
+use Rattle.comm_laws.proofs.Zips.{same_among, stop_at}
 use Rattle.plan_checker.specs.Accepted.{AreCertified, IsAccepted}
 use Rattle.plan_checker.specs.Barriers.{doall_obligations}
 use Rattle.plan_checker.proofs.Certified.{fit_shape}

@@ -20,7 +20,7 @@ use Rattle.nest_tree.specs.Intervals.{form_interval}
 use Rattle.owner_partition.specs.declared.placement.Placement.{Placement}
 use Rattle.sync_plan.proofs.PhasePlaces.{own_ends}
 use Rattle.comm_system.specs.References.{StaticPhase}
-use Rattle.comm_system.proofs.Holders.{placed_keeps}
+use Rattle.comm_laws.proofs.Holders.{placed_keeps}
 use Rattle.comm_system.proofs.Lists.{all_mapped}
 use Rattle.comm_system.proofs.Stations.{inside, text_among, text_of, text-length}
 use Rattle.comm_system.proofs.Timeline.{IsFrontOf}

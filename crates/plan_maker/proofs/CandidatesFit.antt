@@ -32,7 +32,7 @@ use Rattle.sync_plan.proofs.FitOwners.{good_each}
 use Rattle.sync_plan.proofs.Fits.{FitParts, fit_parts}
 use Rattle.comm_system.specs.Boundaries.{is_prefix}
 use Rattle.comm_system.specs.References.{StaticPhase}
-use Rattle.comm_system.proofs.Holders.{anchor_placed}
+use Rattle.comm_laws.proofs.Holders.{anchor_placed}
 use Rattle.comm_system.proofs.KnownHeads.{AreKnown, heads_among, known_among}
 use Rattle.comm_system.proofs.Lists.{all_mapped, mapped_get}
 use Rattle.comm_system.proofs.Stations.{phases-text, text_among}

@@ -29,7 +29,7 @@ use Rattle.sync_plan.specs.Shape.{is_good_anchor, static_phases}
 use Rattle.sync_plan.proofs.FitOwners.{named_low, placed_owner}
 use Rattle.sync_plan.proofs.Fits.{fit_parts}
 use Rattle.sync_plan.proofs.PhasePlaces.{AreBelow, IsThereFrom, own_ends}
-use Rattle.comm_system.proofs.Zips.{good_kind_each}
+use Rattle.comm_laws.proofs.Zips.{good_kind_each}
 
 -- ---- the interval of a loop that a form doesn't name
 
