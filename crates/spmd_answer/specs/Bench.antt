@@ -37,10 +37,14 @@ waits_called word kinds = length (filter (λ k. bytes_eq (kind_word k) word) kin
 abbrev pub count_of : List ℕ → List Kind → List ℕ
 count_of word kinds = word ++ 32 ∷ decimal (waits_called word kinds)
 
+-- the same of these words, each with a blank in front but the first, which has this there
+abbrev pub counts_behind : List ℕ → List (List ℕ) → List Kind → List ℕ
+counts_behind before [] kinds = []
+counts_behind before (word ∷ words) kinds = before ++ (count_of word kinds ++ counts_behind (codes " ") words kinds)
+
 -- the sizes and the workers, and how many waits of each kind the plan has
 abbrev pub bench_head : ℕ → ℕ → ℕ → Plan → List ℕ
 bench_head workers points sweeps plan = text_of (
     (codes "BENCH N " ++ (decimal points ++ (codes " M " ++ (decimal sweeps ++ (codes " WORKERS " ++ decimal workers)))))
-    ∷ (count_of (codes "NOTHING") plan.kinds ++ 32 ∷ (count_of (codes "PRODUCER") plan.kinds ++ 32 ∷ (count_of (codes "LEFT") plan.kinds ++ 32 ∷ (count_of (codes "RIGHT") plan.kinds
-    ++ 32 ∷ (count_of (codes "BOTH") plan.kinds ++ 32 ∷ (count_of (codes "BARRIER") plan.kinds ++ 32 ∷ count_of (codes "JOIN") plan.kinds))))))
+    ∷ counts_behind [] all_words plan.kinds
     ∷ [])

@@ -1,6 +1,6 @@
 // The program that `bench` runs, and what it writes.
 
-ghost use Rattle.std.specs.Prelude.{◌≡◌, ◌≤◌, ℕ, List, IfOk};
+ghost use Rattle.std.specs.Prelude.{◌≡◌, ◌≤◌, ◌++◌, ℕ, List, IfOk, OnOk, map, string_bytes};
 ghost use Rattle.nest_tree.specs.Limits.{IsWithinLimits};
 ghost use Rattle.nest_tree.specs.View.{tree_of};
 ghost use Rattle.nest_tree.specs.WellFormed.{IsWellFormed};
@@ -69,40 +69,35 @@ pub fn bench_head(alloc: Global, bench: Bench, plan: &Plan) -> Result<Vec<u8>, A
         points,
         sweeps,
     } = bench;
-    let kinds = plan.kinds.as_slice();
     let mut text = format!(in alloc; "BENCH N {points} M {sweeps} WORKERS {workers}\n")?;
-    writeln!(
-        text,
-        "NOTHING {} PRODUCER {} LEFT {} RIGHT {} BOTH {} BARRIER {} JOIN {}",
-        waits_called(kinds, "NOTHING"),
-        waits_called(kinds, "PRODUCER"),
-        waits_called(kinds, "LEFT"),
-        waits_called(kinds, "RIGHT"),
-        waits_called(kinds, "BOTH"),
-        waits_called(kinds, "BARRIER"),
-        waits_called(kinds, "JOIN")
-    )?;
+    put_counts(&mut text, "", &Kind::words(), plan.kinds.as_slice())?;
+    text.push('\n')?;
     Ok(text.into_bytes())
+}
+
+// Appends what waits are called, each word with how many are and with a blank in front, but the
+// first with this there.
+fn put_counts(
+    text: &mut String,
+    before: &str,
+    words: &[&str],
+    kinds: &[Kind],
+) -> Result<(), AllocError>
+    ensures { OnOk result (string_bytes text.new ≡ string_bytes text.old
+        ++ texts.counts_behind before.now (map (λ w. w.now) words.now) kinds.now) }
+{
+    match words {
+        [] => Ok(()),
+        [word, behind @ ..] => {
+            write!(text, "{before}{word} {}", waits_called(kinds, word))?;
+            put_counts(text, " ", behind, kinds)
+        }
+    }
 }
 
 // How many waits are called so.
 fn waits_called(kinds: &[Kind], word: &str) -> usize
     ensures { result ≡ texts.waits_called word.now kinds.now }
 {
-    kinds.iter().filter(|kind| word_of(kind) == word).count()
-}
-
-// What a kind of wait is called.
-fn word_of(kind: &Kind) -> &'static str
-    ensures { result.now ≡ texts.kind_word kind.now }
-{
-    match kind {
-        Kind::Nothing => "NOTHING",
-        Kind::Producer(_) => "PRODUCER",
-        Kind::Left => "LEFT",
-        Kind::Right => "RIGHT",
-        Kind::Both => "BOTH",
-        Kind::Barrier => "BARRIER",
-        Kind::Join => "JOIN",
-    }
+    kinds.iter().filter(|kind| kind.word() == word).count()
 }
