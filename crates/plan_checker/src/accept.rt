@@ -1,15 +1,16 @@
 // Whether a plan is accepted.
 
-ghost use Rattle.std.specs.Prelude.{◌≡◌, ◌≢◌, IfErr, IfOk, OnOk, Some};
+ghost use Rattle.std.specs.Prelude.{◌≡◌, ◌≢◌, IfErr, IfOk, None, OnOk, Some};
 ghost use Rattle.nest_tree.specs.Limits.{IsWithinLimits};
 ghost use Rattle.nest_tree.specs.View.{tree_of};
 ghost use Rattle.nest_tree.specs.WellFormed.{IsWellFormed};
+ghost use Rattle.sync_plan.specs.Shape.{wrong_field};
 ghost use Rattle.plan_checker.specs.Accepted.{IsAccepted};
 ghost use Rattle.plan_checker.specs.Failures.{failure_with, first_failure};
 ghost use Rattle.plan_checker.specs.declared.refusal.PlanRefusal.TheVariants.{NoMemory};
 
 use crate::certificates::first_fault;
-use crate::fit::check_fit;
+use crate::fit::check_shaped;
 use crate::refusal::PlanRefusal;
 use comm_system::groups::list_groups;
 use comm_system::phases::phases;
@@ -34,15 +35,18 @@ pub fn check<R: Threads + Sync>(
     ensures refused { IfErr result (λ refusal. refusal ≢ NoMemory
         → first_failure (tree_of program.now) plan.now ≡ Some refusal) }
 {
-    let misfit = check_fit(program, plan).err();
+    if let Some(field) = wrong_field(program, plan) {
+        return Err(PlanRefusal::Shape(field));
+    }
+    let misfit = check_shaped(program, plan).err();
     match failure(rt, alloc, program, plan, misfit)? {
         None => Ok(()),
         Some(refusal) => Err(refusal),
     }
 }
 
-// The first failure of a plan, where this one stands between its shape and its obligations. Of
-// these no more are made than it takes to find the first one without a certificate.
+// The first failure of a plan whose shape is right but for certificates too many, where this one
+// stands between its shape and its obligations. Of these no more are made than it takes to find the first one without a certificate.
 pub(crate) fn failure<R: Threads + Sync>(
     rt: &R,
     alloc: Global,
@@ -52,11 +56,9 @@ pub(crate) fn failure<R: Threads + Sync>(
 ) -> Result<Option<PlanRefusal>, AllocError>
     requires formed { IsWellFormed (tree_of program.now) }
     requires limits { IsWithinLimits (tree_of program.now) }
+    requires shape { wrong_field (tree_of program.now) plan.now ≡ None }
     ensures { IfOk result (λ found. found ≡ failure_with misfit (tree_of program.now) plan.now) }
 {
-    if let Some(field) = wrong_field(program, plan) {
-        return Ok(Some(PlanRefusal::Shape(field)));
-    }
     let certificates = plan.certificates.as_slice().len() as u64;
     let phases = phases(alloc, program, &plan.cut)?;
     let groups = list_groups(alloc, program, plan, phases.as_slice(), certificates + 1)?;

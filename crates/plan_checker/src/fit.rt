@@ -1,10 +1,11 @@
 // Whether a plan fits a program.
 
-ghost use Rattle.std.specs.Prelude.{◌≡◌};
+ghost use Rattle.std.specs.Prelude.{◌≡◌, None};
 ghost use Rattle.std.specs.Result.{result_err};
 ghost use Rattle.nest_tree.specs.Limits.{IsWithinLimits};
 ghost use Rattle.nest_tree.specs.View.{tree_of};
 ghost use Rattle.nest_tree.specs.WellFormed.{IsWellFormed};
+ghost use Rattle.sync_plan.specs.Shape.{wrong_field};
 ghost use Rattle.plan_checker.specs.Refusals.{first_refusal};
 
 use crate::places::{check_places, misplaced_print};
@@ -24,6 +25,16 @@ pub fn check_fit(program: &Program, plan: &Plan) -> Result<(), PlanRefusal>
     if let Some(field) = wrong_field(program, plan) {
         return Err(PlanRefusal::Shape(field));
     }
+    check_shaped(program, plan)
+}
+
+/// The same of a plan whose shape is right.
+pub(crate) fn check_shaped(program: &Program, plan: &Plan) -> Result<(), PlanRefusal>
+    requires formed { IsWellFormed (tree_of program.now) }
+    requires limits { IsWithinLimits (tree_of program.now) }
+    requires shape { wrong_field (tree_of program.now) plan.now ≡ None }
+    ensures { result_err result ≡ first_refusal (tree_of program.now) plan.now }
+{
     if let Err(Placement { phase, low, high }) = check_places(program, plan) {
         return Err(PlanRefusal::Placement { phase, low, high });
     }

@@ -15,6 +15,7 @@ use crate::fit::check_fit;
 use crate::refusal::PlanRefusal;
 use nest_agree::agrees;
 use nest_tree::{Parameter, Program};
+use plan_shape::wrong_field;
 use std::alloc::Global;
 use std::thread::Threads;
 use sync_plan::{Conditions, Plan};
@@ -45,6 +46,9 @@ pub fn prove<'p, R: Threads + Sync>(
     ensures refused { IfErr result (λ refusal. refusal ≢ NoMemory
         → first_unproved (tree_of program.entry.now) plan.entry.now ≡ Some refusal) }
 {
+    if let Some(field) = wrong_field(program, plan) {
+        return Err(PlanRefusal::Shape(field));
+    }
     match failure(rt, alloc, program, plan, None)? {
         None => Ok(Proven { program, plan }),
         Some(refusal) => Err(refusal),

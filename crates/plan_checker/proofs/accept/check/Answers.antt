@@ -8,5 +8,5 @@ pub returns-in-None-clause-accepted : goal.returns-in-None-clause-accepted
 returns-in-None-clause-accepted g c =
     let tree = tree_of c.args.program.now in
     let plan = c.args.plan.now in
-    let misfit = c.err-misfit.ensures.value ∙ c.check_fit.ensures in
+    let misfit = c.err-misfit.ensures.value ∙ c.check_shaped.ensures in
     accepted_where_none tree plan (sym (ap (λ found. failure_with found tree plan) misfit) ∙ sym c.in_ok-failure.ensures ∙ c.in-None.is)

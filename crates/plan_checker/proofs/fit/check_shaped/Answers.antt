@@ -9,8 +9,8 @@ use Rattle.sync_plan.specs.declared.plan.Plan.{Plan}
 use Rattle.sync_plan.specs.Fit.{as_misfit, condition, misplaced_print, placed_anchors, placement, print_place, shape, unmet}
 use Rattle.sync_plan.specs.Shape.{static_phases, wrong_field}
 use Rattle.plan_checker.specs.Refusals.{first_refusal, refusal_of}
-use Rattle.plan_checker.proofs.fit.check_fit.Goals as goal
-use Rattle.plan_checker.proofs.fit.check_fit.Goals.{After-unmet}
+use Rattle.plan_checker.proofs.fit.check_shaped.Goals as goal
+use Rattle.plan_checker.proofs.fit.check_shaped.Goals.{After-unmet}
 
 -- where shape, placement and PRINTs are right, only the conditions are left
 last : (tree : Tree) (plan : Plan) → None ≡ wrong_field tree plan → None ≡ unplaced tree plan.cut.marks plan.workers (placed_anchors plan) → None ≡ misplaced_print 1 plan.cut.marks (static_phases tree plan.cut.marks) plan.anchors →
@@ -27,7 +27,7 @@ known c =
     let plan = c.args.plan.now in
     let prints = c.in_default-misplaced_print.ensures ∙ ap (misplaced_print 1 plan.cut.marks (static_phases tree plan.cut.marks)) c.as_slice.ensures in
     ap (λ o. option_map refusal_of (as_misfit condition o)) (c.unmet.ensures ∙ ap (λ (ps : List Parameter). unmet (map (λ (p : Parameter). p.value) ps) plan.conditions) c.deref.ensures.value)
-    ∙ ap (λ vs. option_map refusal_of (as_misfit condition (unmet vs plan.conditions))) (sym (values_of_constants c.args.program.now.params.items)) ∙ last tree plan c.in_default.ensures.field c.in_default-check_places.ensures prints
+    ∙ ap (λ vs. option_map refusal_of (as_misfit condition (unmet vs plan.conditions))) (sym (values_of_constants c.args.program.now.params.items)) ∙ last tree plan (sym c.requires.shape) c.in_default-check_places.ensures prints
 
 pub returns-in-Some-unmet : goal.returns-in-Some-unmet
 returns-in-Some-unmet c = ap (λ o. option_map refusal_of (as_misfit condition o)) (sym c.in-Some-unmet.is) ∙ known (goal.at.returns-in-Some-unmet c).After-unmet
