@@ -6,20 +6,15 @@
 //!
 //! - [`constraint`]: sums of unknowns that are at most a number.
 //! - [`terms`]: the terms of a form inside loops.
-//! - [`groups`]: what holds of an instance: the values of the named constants, its loops, its
-//!   comparison.
-//! - [`rows`]: constraints as rows of a system.
 //! - [`in_common`]: the loops that two places have in common.
 //! - [`nested`]: the pieces of work of a program, each with the loops round it.
 //! - [`laws`]: that each instance's values solve what holds of it.
 #![tactic(auto)]
 
 pub mod constraint;
-pub mod groups;
 pub mod in_common;
 pub mod laws;
 pub mod nested;
-pub mod rows;
 pub mod terms;
 
 pub use constraint::{Constraint, Sign};
