@@ -45,7 +45,7 @@ all_mapped : {X Y : Type 0} (F G : X → Y) → ((x : X) → F x ≡ G x) → (x
 all_mapped F G same [] = refl
 all_mapped F G same (x ∷ xs) = ap (λ y. y ∷ map F xs) (same x) ∙ ap (λ ys. G x ∷ ys) (all_mapped F G same xs)
 
-all_kept : {X : Type 0} (P : X → Type 0) (p : X → Bool) (xs : List X) → AllByRecursion P xs → AllByRecursion P (filter p xs)
+pub all_kept : {X : Type 0} (P : X → Type 0) (p : X → Bool) (xs : List X) → AllByRecursion P xs → AllByRecursion P (filter p xs)
 all_kept P p [] h = tt
 all_kept P p (x ∷ xs) h = elim (p x) as (λ b. AllByRecursion P (cond b (x ∷ filter p xs) (filter p xs))) [ true ↦ (h.0, all_kept P p xs h.1) | false ↦ all_kept P p xs h.1 ]
 

@@ -2,6 +2,7 @@
 use Rattle.std.proofs.Common.{◌≡◌, ◌≢◌, ◌∙◌, ℕ, ℤ, Bool, true, false, List, Option, Some, None, refl, ap, sym, inl, inr}
 use Rattle.std.specs.Prelude.{IfSome}
 use Rattle.std.specs.Option.{option_map, option_or}
+use Rattle.plan_checker.proofs.Certified.{unmapped}
 use Rattle.f77_lines.specs.Columns.{lines_of}
 use Rattle.f77_lines.specs.Listing as listing
 use Rattle.f77_lines.specs.Statements.{Entry}
@@ -19,6 +20,7 @@ use Rattle.f77_source.specs.Answers.{IsProgram, Refuses}
 use Rattle.nest_tree.specs.Limits.{first_limit}
 use Rattle.nest_tree.specs.Tree.{Tree}
 use Rattle.nest_tree.specs.declared.limits.Limit.{Limit}
+use Rattle.nest_tree.proofs.FirstLimits.{neither}
 use Rattle.range_check.specs.Outside.{outside_of}
 use Rattle.range_check.specs.declared.outside.OutOfRange.{OutOfRange}
 use Rattle.plan_input.specs.Stops.{IsClear, IsFirst, IsToldAs, first_behind_end, first_source_stop, first_stop, first_stray, named, stop_of_fault, stop_of_lines, stop_of_listed}
@@ -34,14 +36,6 @@ or_some (Some y) b x e = e
 pub or_none : {A : Type 0} (a b : Option A) → a ≡ None → option_or a b ≡ b
 or_none None b e = refl
 or_none (Some y) b e = absurd (cc)
-
-pub none_of_or : {A : Type 0} (a b : Option A) → option_or a b ≡ None → (a ≡ None) × (b ≡ None)
-none_of_or None b e = (refl, e)
-none_of_or (Some y) b e = absurd (cc)
-
-pub unmapped : {A B : Type 0} (f : A → B) (a : Option A) → option_map f a ≡ None → a ≡ None
-unmapped f None e = refl
-unmapped f (Some x) e = absurd (cc)
 
 -- ---- the lines
 
@@ -73,7 +67,7 @@ stray_is true bytes rest found only behind e = e ∙ ap (λ n. listing.first_beh
 stray_is false bytes rest found only behind e = absurd (cc)
 
 pub clear_lines : (alone : Bool) (bytes : List ℕ) → stop_of_lines alone bytes ≡ None → IsClear alone bytes
-clear_lines true bytes none = λ only faultless. unmapped (λ n. Line (lines.AfterEnd n)) (first_behind_end bytes) (none_of_or (option_map Line (listing.first_line_fault bytes)) (option_map (λ n. Line (lines.AfterEnd n)) (first_behind_end bytes)) none).1
+clear_lines true bytes none = λ only faultless. unmapped (λ n. Line (lines.AfterEnd n)) (first_behind_end bytes) (neither (option_map Line (listing.first_line_fault bytes)) (option_map (λ n. Line (lines.AfterEnd n)) (first_behind_end bytes)) none).1
 clear_lines false bytes none = λ only. absurd (cc)
 
 -- ---- what they list

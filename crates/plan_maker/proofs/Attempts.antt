@@ -7,6 +7,7 @@ use Rattle.std.proofs.lemmas.Grind.{flat_map-append}
 use Rattle.nest_walk.proofs.Grown.{AllZip-append}
 use Rattle.nest_rows.proofs.Nesting.{all-append}
 use Rattle.nest_tree.specs.Tree.{Statements, done, Tree}
+use Rattle.comm_system.proofs.InPlace.{take_got}
 use Rattle.owner_partition.specs.declared.cut.Mark.{Mark}
 use Rattle.plan_maker.specs.declared.cause.Cause.{Cause}
 use Rattle.plan_maker.specs.declared.reasons.Bar.TheVariants.{Print, Meeting}
@@ -20,7 +21,6 @@ use Rattle.plan_maker.specs.declared.loops.Dealt.{Dealt}
 use Rattle.plan_maker.specs.declared.verdict.Verdict.TheVariants.{Refuted}
 use Rattle.plan_maker.specs.Loops.{IsDealt, IsLoopVerdict}
 use Rattle.maker_marks.specs.Tries.{body_among, body_of, tries_of}
-use Rattle.plan_maker.proofs.Lists.{take_got}
 
 pub body_there : (tree : Tree) (n : ℕ) (body : Statements) → body_among n tree.items ≡ Some body → body_of tree n ≡ body
 body_there tree n body at = ap (λ o. unwrap_or o done) at

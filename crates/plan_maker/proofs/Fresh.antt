@@ -1,5 +1,5 @@
 -- The beginning of a search: a barrier stands in front of each phase, so no slot has a system; and what the candidates are.
-use Rattle.std.proofs.Common.{◌≡◌, ◌^◌, ap₂, ℕ, zero, suc, ◌+◌, ◌-◌, ◌<◌, Bool, true, false, ◌&&◌, List, [], ◌∷◌, ◌++◌, length, map, append_assoc, Some, None, if◌then◌else◌, refl, ap, sym, ◌∙◌, subst, inl, arith}
+use Rattle.std.proofs.Common.{◌≡◌, ◌^◌, ap₂, ℕ, zero, suc, ◌+◌, ◌-◌, ◌<◌, true, false, ◌&&◌, List, [], ◌∷◌, ◌++◌, length, map, append_assoc, Some, None, if◌then◌else◌, refl, ap, sym, ◌∙◌, subst, inl, arith}
 use Rattle.std.specs.Prelude.{slice_get}
 use Rattle.std.specs.List.{All, AllByRecursion, AllZip, filter, flat_map, list_all}
 use Rattle.std.proofs.lemmas.Bool.{and_from, and_parts}
@@ -10,6 +10,7 @@ use Rattle.nest_walk.proofs.Grown.{AllZip-append}
 use Rattle.nest_tree.specs.Tree.{Tree}
 use Rattle.nest_tree.specs.View.{tree_of}
 use Rattle.nest_tree.specs.WellFormed.{names_only}
+use Rattle.nest_rows.proofs.Nesting.{all-weaker}
 use Rattle.owner_partition.specs.declared.anchor.Anchor.{Anchor}
 use Rattle.owner_partition.specs.declared.cut.Mark.{Mark}
 use Rattle.sync_plan.specs.declared.plan.Kind.{Kind}
@@ -23,6 +24,7 @@ use Rattle.comm_system.specs.Signatures.{Signature, blocked, has_places_in, wait
 use Rattle.comm_system.specs.SlotViews.{slot_seen}
 use Rattle.comm_system.proofs.ShapeParts.{shaped}
 use Rattle.plan_checker.proofs.Blocked.{none_of_slots}
+use Rattle.plan_checker.proofs.Agreeing.{all_kept}
 use Rattle.plan_maker.specs.declared.cache.SlotCache.{SlotCache}
 use Rattle.plan_maker.specs.declared.problem.Problem.{Problem}
 use Rattle.plan_maker.specs.Asked.{asked, owners_dealt, slot_asked}
@@ -72,18 +74,6 @@ none-each : {X Y : Type 0} (f : X → List Y) (xs : List X) → flat_map f xs �
 none-each f [] none = tt
 none-each f (x ∷ xs) none = let parts = none-here f x (flat_map f xs) none in (parts.0, none-each f xs parts.1)
 
-filtered : {X : Type 0} (P : X → Type 0) (p : X → Bool) (xs : List X) → AllByRecursion P xs → AllByRecursion P (filter p xs)
-filtered P p [] h = tt
-filtered P p (x ∷ xs) h = by (p x) (filtered P p xs h.1)
-  where
-    by : (b : Bool) → AllByRecursion P (filter p xs) → AllByRecursion P (if b then x ∷ filter p xs else filter p xs)
-    by true rest = (h.0, rest)
-    by false rest = rest
-
-weakened : {X : Type 0} (P Q : X → Type 0) (xs : List X) → ((x : X) → P x → Q x) → AllByRecursion P xs → AllByRecursion Q xs
-weakened P Q [] f h = tt
-weakened P Q (x ∷ xs) f h = (f x h.0, weakened P Q xs f h.1)
-
 module _ (tree : Tree) (plan : Plan) where
   abbrev phases : List StaticPhase
   phases = phases_of tree plan.cut.marks
@@ -104,8 +94,8 @@ module _ (tree : Tree) (plan : Plan) where
 
   pub none_asked : AllByRecursion (λ slot. slot_asked tree plan slot (slot_signature plan.version kinds phases slot) ≡ []) (filter meets (slots_of phases))
   none_asked =
-      filtered (λ slot. slot_asked tree plan slot (slot_signature plan.version kinds phases slot) ≡ []) meets (slots_of phases)
-      (weakened (λ slot. slot_tasks tree barred slot (slot_signature plan.version kinds phases slot) ≡ []) (λ slot. slot_asked tree plan slot (slot_signature plan.version kinds phases slot) ≡ []) (slots_of phases)
+      all_kept (λ slot. slot_asked tree plan slot (slot_signature plan.version kinds phases slot) ≡ []) meets (slots_of phases)
+      (all-weaker (λ slot. slot_tasks tree barred slot (slot_signature plan.version kinds phases slot) ≡ []) (λ slot. slot_asked tree plan slot (slot_signature plan.version kinds phases slot) ≡ []) (slots_of phases)
       (λ slot none. unasked-at slot (slot_signature plan.version kinds phases slot) none)
       (none-each (λ slot. slot_tasks tree barred slot (slot_signature plan.version kinds phases slot)) (slots_of phases) (none_of_slots tree barred phases barriers)))
 

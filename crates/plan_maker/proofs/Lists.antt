@@ -1,8 +1,7 @@
 -- Lists, and two of them side by side.
-use Rattle.std.proofs.Common.{◌≡◌, ℕ, zero, suc, ◌+◌, ◌<◌, List, [], ◌∷◌, ◌++◌, take, length, get_or, set, Some, None, refl, ap, sym, ◌∙◌, subst, inl, inr, ◌⊎◌, arith, length-append}
+use Rattle.std.proofs.Common.{◌≡◌, ℕ, zero, suc, ◌+◌, ◌<◌, List, [], ◌∷◌, ◌++◌, length, get_or, set, Some, None, refl, ap, sym, subst, inl, inr, ◌⊎◌, arith, length-append}
 use Rattle.std.specs.Prelude.{slice_get}
-use Rattle.std.proofs.lemmas.List.{get_or_append_left, get_or_push, take_more}
-use Rattle.std.proofs.lemmas.Option.{get_or_from_slice_get, slice_get_within}
+use Rattle.std.proofs.lemmas.List.{get_or_append_left, get_or_push}
 use Rattle.std.specs.List.{All, AllZip}
 
 -- of things side by side
@@ -42,9 +41,6 @@ pub same_read : {X : Type 0} (xs : List X) (k : ℕ) (d e : X) → k < length xs
 same_read [] k d e lt = absurd (omega (arith, lt))
 same_read (x ∷ xs) zero d e lt = refl
 same_read (x ∷ xs) (suc k) d e lt = same_read xs k d e (omega (arith, lt))
-
-pub take_got : {X : Type 0} (xs : List X) (k : ℕ) (x : X) → slice_get xs k ≡ Some x → take (k + 1) xs ≡ take k xs ++ x ∷ []
-take_got xs k x at = take_more xs k x (slice_get_within xs k x at) ∙ ap (λ z. take k xs ++ z ∷ []) (get_or_from_slice_get xs k x x at)
 
 pub all_one : {X : Type 0} (P : X → Type 0) (x : X) → P x → All P (x ∷ [])
 all_one P x p zero d lt = p

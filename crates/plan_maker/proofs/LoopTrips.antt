@@ -20,6 +20,7 @@ use Rattle.comm_system.specs.Pairs.{pairs_among}
 use Rattle.comm_system.specs.Paths.{path_of}
 use Rattle.comm_system.specs.References.{Reference, StaticPhase, phases_of, references_of, variable_of}
 use Rattle.comm_system.specs.Shown.{is_among}
+use Rattle.comm_system.proofs.InPlace.{take_got}
 use Rattle.maker_marks.specs.declared.tries.Tried.{Tried}
 use Rattle.plan_maker.specs.Asked.{AreRefuted, Asked, all_paths_asked, all_trips_asked, asked, paths_asked, trips_asked}
 use Rattle.maker_marks.specs.Cut.{cut_alone, cut_of, only}
@@ -29,7 +30,6 @@ use Rattle.plan_maker.specs.Loops.{LoopVerdict, by_number, loops_asked, loops_pa
 use Rattle.plan_maker.specs.Trials.{HasMoreCertificates}
 use Rattle.maker_marks.specs.Tries.{tried_at}
 use Rattle.plan_maker.proofs.DealtPhases.{IsOnly, asked_at, asked_of, by_number-append, by_number-same, laid, laid-one, laid_from, whole-by}
-use Rattle.plan_maker.proofs.Lists.{take_got}
 use Rattle.plan_maker.proofs.Marked.{own_is, tried_is}
 use Rattle.plan_maker.proofs.Questions.{refuted-append}
 use Rattle.plan_maker.proofs.Verdicts.{paths_same, trips_same}

@@ -2,6 +2,7 @@
 use Rattle.std.proofs.Common.{◌≡◌, ℕ, ◌||◌, ◌++◌, Bool, true, false, List, [], ◌∷◌, map, refl, ap, sym, ◌∙◌, if◌then◌else◌}
 use Rattle.std.specs.List.{filter, flat_map, list_any}
 use Rattle.nest_tree.specs.Tree.{Tree}
+use Rattle.own_scalars.proofs.Stored.{neither}
 use Rattle.owner_partition.specs.Cuts.{Cutting}
 use Rattle.sync_plan.specs.declared.plan.Kind.{Kind}
 use Rattle.sync_plan.specs.declared.plan.Plan.{Plan}
@@ -37,18 +38,14 @@ no-pairs (a ∷ ss) ts h = by (list_any (conflict a) ts) refl (list_any (λ a. l
     by false at rest e f = ap (λ bs. map (pair-with a) bs ++ flat_map (couples ts) ss) (none-left (conflict a) ts at) ∙ f e
 
 -- of accesses that others see there are no more
-no-either : (b c : Bool) → (b || c) ≡ false → (b ≡ false) × (c ≡ false)
-no-either true c h = absurd (let no : true ≡ false = h in cc)
-no-either false c h = (refl, h)
-
 none-weaker : (p q : Reference → Bool) → ((x : Reference) → p x ≡ false → q x ≡ false) → (xs : List Reference) → list_any p xs ≡ false → list_any q xs ≡ false
 none-weaker p q each [] h = refl
-none-weaker p q each (x ∷ xs) h = let parts = no-either (p x) (list_any p xs) h in ap (λ b. b || list_any q xs) (each x parts.0) ∙ none-weaker p q each xs parts.1
+none-weaker p q each (x ∷ xs) h = let parts = neither (p x) (list_any p xs) h in ap (λ b. b || list_any q xs) (each x parts.0) ∙ none-weaker p q each xs parts.1
 
 none-shown : (p : Reference → Bool) (privates taken : List ℕ) (rs : List Reference) → list_any p rs ≡ false → list_any p (shown_among privates taken rs) ≡ false
 none-shown p privates taken [] h = refl
 none-shown p privates taken (r ∷ rs) h =
-    let parts = no-either (p r) (list_any p rs) h in
+    let parts = neither (p r) (list_any p rs) h in
     by (is_among privates (variable_of r.what)) (is_among taken (variable_of r.what)) parts.0 (none-shown p privates taken rs parts.1) (none-shown p privates (taken ++ variable_of r.what ∷ []) rs parts.1)
   where
     by : (private before : Bool) → p r ≡ false → list_any p (shown_among privates taken rs) ≡ false → list_any p (shown_among privates (taken ++ variable_of r.what ∷ []) rs) ≡ false →

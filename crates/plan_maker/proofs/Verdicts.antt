@@ -7,10 +7,11 @@ use Rattle.nest_tree.specs.Tree.{Tree}
 use Rattle.owner_partition.specs.declared.cut.Mark.{Mark}
 use Rattle.sync_plan.specs.declared.plan.Plan.{Plan}
 use Rattle.comm_system.specs.References.{StaticPhase}
+use Rattle.comm_system.proofs.InPlace.{take_got}
 use Rattle.plan_maker.specs.Asked.{paths_asked, trips_asked}
 use Rattle.plan_maker.specs.Bars.{is_open, open_loops}
 use Rattle.plan_maker.specs.Loops.{AreLoopVerdicts, IsLoopVerdict, LoopVerdict}
-use Rattle.plan_maker.proofs.Lists.{get_pushed, take_got}
+use Rattle.plan_maker.proofs.Lists.{get_pushed}
 
 -- one more
 pub verdict_more : (tree : Tree) (vs : List LoopVerdict) (v : LoopVerdict) → AreLoopVerdicts tree vs → IsLoopVerdict tree (length vs + 1) v → AreLoopVerdicts tree (vs ++ v ∷ [])

@@ -36,14 +36,9 @@ use Rattle.maker_marks.specs.declared.tries.Tried.{Tried}
 use Rattle.plan_text.proofs.Counts.{counts_of_fit}
 use Rattle.plan_text.proofs.Written.{zipped-length}
 use Rattle.plan_text.specs.PlanText.{HasText, cut_loops, has_loop, is_32, is_anchor_shown, is_dist_shown, is_form_shown, is_kind_shown, is_loop_shown, is_phase_shown, zipped}
+use Rattle.plan_text.proofs.Splitting.{weaken}
 
 -- ---- lists of which each element passes a test
-
-each : {X : Type 0} (p q : X → Bool) → ((x : X) → p x ≡ true → q x ≡ true) → (xs : List X) → list_all p xs ≡ true → list_all q xs ≡ true
-each p q h [] all = refl
-each p q h (x ∷ xs) all =
-    let parts = and_parts (p x) (list_all p xs) all in
-    and_from (q x) (list_all q xs) (h x parts.0) (each p q h xs parts.1)
 
 both : {X : Type 0} (p q : X → Bool) (xs : List X) → list_all p xs ≡ true → list_all q xs ≡ true → list_all (λ x. p x && q x) xs ≡ true
 both p q [] h k = refl
@@ -148,7 +143,7 @@ mutual
   none_have (next s rest) = joined (none_in s) (none_of rest) (none_have_in s) (none_have rest)
 
 without : (ms : List Mark) (vs : List (List ℕ)) → list_all has_none vs ≡ true → list_all may_have (zipped ms vs) ≡ true
-without ms vs h = each (λ (l : Mark × List ℕ). has_none l.1) may_have (λ l e. or_left (has_none l.1) (is_doall l.0) e) (zipped ms vs) (zipped_second has_none ms vs h)
+without ms vs h = weaken (λ (l : Mark × List ℕ). has_none l.1) may_have (λ l e. or_left (has_none l.1) (is_doall l.0) e) (zipped ms vs) (zipped_second has_none ms vs h)
 
 module _ (dealt : ℕ → Option Tried) (own : ℕ → List ℕ) where
   closed_loop : (o : Option Tried) (vs : List ℕ) (body : Statements) (inside : List (List ℕ)) → is_some o ≡ false → list_all has_none inside ≡ true → list_all has_none (privates_by o vs body inside) ≡ true
@@ -222,7 +217,7 @@ all_loops cut may shown =
     let all = zipped_second (list_all is_32) cut.marks cut.privates shown in
     let first = λ (l : Mark × List ℕ). of_mark l.0 && of_scalars l.1 in
     let second = λ (l : Mark × List ℕ). may_have l && list_all is_32 l.1 in
-    each (λ (l : Mark × List ℕ). first l && second l) (is_loop_shown version)
+    weaken (λ (l : Mark × List ℕ). first l && second l) (is_loop_shown version)
     (λ l h.
     let parts = and_parts (first l) (second l) h in
     let one = and_parts (of_mark l.0) (of_scalars l.1) parts.0 in

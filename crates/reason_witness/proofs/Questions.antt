@@ -9,12 +9,9 @@ use Rattle.nest_tree.specs.Prints.{have_print}
 use Rattle.nest_tree.specs.Tree.{Statements, Tree, done}
 use Rattle.nest_tree.specs.WellFormed.{IsWellFormed, loops_of, scope_of}
 use Rattle.nest_tree.proofs.Cells.{well_formed_parts}
-use Rattle.sync_plan.specs.Fit.{IsFit, as_misfit, shape}
-use Rattle.sync_plan.specs.Shape.{wrong_field}
+use Rattle.plan_checker.proofs.Certified.{fit_shape}
 use Rattle.sync_plan.specs.declared.plan.Kind.{Kind}
 use Rattle.sync_plan.specs.declared.plan.Plan.{Plan}
-use Rattle.sync_plan.proofs.Fits.{nothing_misfits}
-use Rattle.nest_tree.proofs.FirstLimits.{neither}
 use Rattle.comm_system.specs.Signatures.{has_places_in}
 use Rattle.maker_candidates.specs.Candidates.{candidates_in}
 use Rattle.maker_marks.specs.Tries.{all_tries, body_among, body_of, tries_at}
@@ -89,9 +86,6 @@ pub all_filtered : {X : Type 0} (p q : X → Bool) (xs : List X) → list_all p 
 all_filtered p q [] all = refl
 all_filtered p q (x ∷ xs) all = let parts = and_parts (p x) (list_all p xs) all in kept_or_not p x (filter q xs) (q x) parts.0 (all_filtered p q xs parts.1)
 
-pub shape_fits : (tree : Tree) (plan : Plan) → IsFit tree plan → wrong_field tree plan ≡ None
-shape_fits tree plan fits = nothing_misfits shape (wrong_field tree plan) (neither (as_misfit shape (wrong_field tree plan)) _ fits).0
-
 pub all_set : {X : Type 0} (p : X → Bool) (xs : List X) (i : ℕ) (x : X) → list_all p xs ≡ true → p x ≡ true → list_all p (set xs i x) ≡ true
 all_set p [] i x all one = refl
 all_set p (y ∷ xs) zero x all one = and_from (p x) (list_all p xs) one (and_parts (p y) (list_all p xs) all).1
@@ -117,4 +111,4 @@ reasons_have tree plan taken (c ∷ cs) (r ∷ rs) all h =
 
 -- those that the maker's reasons name
 pub made_have : (tree : Tree) (workers : ℕ) (plan : Plan) (reasons : Reasons) → IsMade tree workers plan reasons → list_all (λ (r : PhaseReason). has_places_in r.kind) reasons.phases.items ≡ true
-made_have tree workers plan reasons made = reasons_have tree plan made.taken (weaker_from 0 made.taken) reasons.phases.items (all_have tree plan (shape_fits tree plan made.accepted.fits)) made.phases
+made_have tree workers plan reasons made = reasons_have tree plan made.taken (weaker_from 0 made.taken) reasons.phases.items (all_have tree plan (fit_shape tree plan made.accepted.fits)) made.phases

@@ -4,6 +4,7 @@ use Rattle.std.specs.Prelude.{MatchBool}
 use Rattle.std.specs.List.{AllZip}
 use Rattle.std.proofs.lemmas.List.{map_more}
 use Rattle.nest_tree.specs.Tree.{Tree}
+use Rattle.nest_walk.proofs.Grown.{AllZip-append}
 use Rattle.sync_plan.specs.declared.plan.Plan.{Plan}
 use Rattle.comm_system.specs.Obligations.{obligations_of, tasks_of}
 use Rattle.maker_marks.specs.declared.tries.Tried.{Tried}
@@ -31,12 +32,6 @@ serial_prints tree n t wanted prints = subst (λ b. MatchBool b (Print ≡ Print
 pub serial_silent : (tree : Tree) (n : ℕ) (t : Tried) (wanted : Wanted) (why : Why) → loop_prints tree n ≡ false → IsWhySilent tree (alone_plan tree n t) wanted why → IsWhySerial tree n t wanted why
 serial_silent tree n t wanted why silent h = subst (λ b. MatchBool b (why ≡ Print) (IsWhySilent tree (alone_plan tree n t) wanted why)) (sym silent) h
 
-zip-append : {A B : Type 0} (R : A → B → Type 0) (xs xs' : List A) (ys ys' : List B) → AllZip R xs ys → AllZip R xs' ys' → AllZip R (xs ++ xs') (ys ++ ys')
-zip-append R [] xs' [] ys' h k = k
-zip-append R [] xs' (y ∷ ys) ys' h k = absurd h
-zip-append R (x ∷ xs) xs' [] ys' h k = absurd h
-zip-append R (x ∷ xs) xs' (y ∷ ys) ys' h k = (h.0, zip-append R xs xs' ys ys' h.1 k)
-
 -- one more answer
 pub pushed : {Q A R : Type 0} (rel : Q → R → Type 0) (f : A → Q) (qs : List Q) (xs : List A) (k : ℕ) (x : A) (rs : List R) (r : R) → k < length xs → get_or xs k x ≡ x → AllZip rel (qs ++ map f (take k xs)) rs → rel (f x) r →
     AllZip rel (qs ++ map f (take (k + 1) xs)) (rs ++ r ∷ [])
@@ -44,4 +39,4 @@ pushed rel f qs xs k x rs r lt is h one =
     let split = map_more f xs k x lt ∙ ap (λ y. map f (take k xs) ++ f y ∷ []) is in
     subst (λ ps. AllZip rel (qs ++ ps) (rs ++ r ∷ [])) (sym split)
     (subst (λ ps. AllZip rel ps (rs ++ r ∷ [])) (append_assoc qs (map f (take k xs)) (f x ∷ []))
-    (zip-append rel (qs ++ map f (take k xs)) (f x ∷ []) rs (r ∷ []) h (one, tt)))
+    (AllZip-append rel (qs ++ map f (take k xs)) (f x ∷ []) rs (r ∷ []) h (one, tt)))

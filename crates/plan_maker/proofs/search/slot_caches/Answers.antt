@@ -3,10 +3,10 @@ use Rattle.std.proofs.lemmas.List.{map-append}
 use Rattle.std.proofs.lemmas.Option.{slice_get_read}
 use Rattle.comm_system.specs.PhaseViews.{phase_seen}
 use Rattle.comm_system.specs.SlotViews.{slot_seen}
+use Rattle.comm_system.proofs.InPlace.{take_got}
 use Rattle.plan_maker.specs.declared.cache.SlotCache.{SlotCache}
 use Rattle.plan_maker.specs.Searches.{AreFresh, IsFresh}
 use Rattle.plan_maker.proofs.Fresh.{fresh_more, fresh_none}
-use Rattle.plan_maker.proofs.Lists.{take_got}
 use Rattle.plan_maker.proofs.search.slot_caches.Goals as goal
 use Rattle.plan_maker.proofs.search.slot_caches.Goals.{then-meets+in_ok-new+in_ok-push, else-meets}
 

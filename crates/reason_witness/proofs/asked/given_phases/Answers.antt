@@ -3,6 +3,7 @@ use Rattle.std.specs.List.{list_all}
 use Rattle.std.proofs.lemmas.List.{length-map}
 use Rattle.list_lemmas.proofs.Each.{passes_at}
 use Rattle.nest_tree.specs.View.{tree_of}
+use Rattle.plan_checker.proofs.Certified.{fit_shape}
 use Rattle.comm_system.specs.PhaseViews.{phase_seen}
 use Rattle.comm_system.specs.References.{phases_of}
 use Rattle.comm_system.specs.Signatures.{has_places_in}
@@ -11,7 +12,7 @@ use Rattle.maker_candidates.proofs.Lists.{candidates_long}
 use Rattle.plan_maker.proofs.Fresh.{all_have}
 use Rattle.sync_plan.specs.Kinds.{strength}
 use Rattle.reason_witness.specs.Reasons.{kind_question, weaker_questions, weaker_than}
-use Rattle.reason_witness.proofs.Questions.{all_filtered, shape_fits, weaker_all, weaker_more}
+use Rattle.reason_witness.proofs.Questions.{all_filtered, weaker_all, weaker_more}
 use Rattle.reason_witness.proofs.asked.given_phases.Goals as goal
 
 -- a place is that of a phase
@@ -35,7 +36,7 @@ push_weaker-requires c =
     let all = c.as_slice-candidates.result.now in
     let kind = c.kind_in-kind.result.now in
     let here = c.candidates_at.result.now in
-    let have = ap (list_all (λ ks. list_all has_places_in ks)) (c.as_slice-candidates.ensures.value ∙ c.in_ok-candidates.ensures) ∙ all_have tree plan (shape_fits tree plan c.requires.fits) in
+    let have = ap (list_all (λ ks. list_all has_places_in ks)) (c.as_slice-candidates.ensures.value ∙ c.in_ok-candidates.ensures) ∙ all_have tree plan (fit_shape tree plan c.requires.fits) in
     ap (list_all has_places_in) c.in_ok-weaker.ensures ∙ all_filtered has_places_in (λ k. nat_lt (strength k) (strength kind)) here (passes_at (λ ks. list_all has_places_in ks) all c.loop-place.place here have c.candidates_at.ensures)
 
 pub loop-place-preserved : goal.loop-place-preserved
