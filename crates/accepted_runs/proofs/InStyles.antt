@@ -16,7 +16,7 @@ use Rattle.sync_plan.specs.declared.plan.Plan.{Plan}
 use Rattle.sync_plan.proofs.Fits.{fit_parts}
 use Rattle.plan_checker.specs.Accepted.{IsAccepted}
 use Rattle.plan_checker.proofs.AcceptedOrder.{accepted_ordered}
-use Rattle.spmd_model.specs.Ordered.{IsOrdered, IsSound}
+use Rattle.spmd_model.specs.Ordered.{IsOrderedMachine, IsSound}
 use Rattle.spmd_model.specs.Reached.{CanGo, IsSequential, positions_of}
 use Rattle.spmd_model.specs.States.{IsEnded, State, next_act, run_of}
 use Rattle.spmd_model.specs.Machines.{instances_in_front, job_under, machine_by, timeline_by}
@@ -42,7 +42,7 @@ module _ (style : Style) (tree : Tree) (plan : Plan) (schedule : List ℕ) (form
   unstuck_by = ended_or_goes (machine_by style tree plan) come_by sound (come_run (machine_by style tree plan) schedule workers)
 
   module _ (ranges : IsInRange tree) where
-    ordered : IsOrdered (machine_by style tree plan)
+    ordered : IsOrderedMachine (machine_by style tree plan)
     ordered = ordered_by style tree plan formed accepted.fits ranges (accepted_ordered tree plan formed ranges accepted)
 
     stored : AreStoredFirst tree plan

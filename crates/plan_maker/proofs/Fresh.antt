@@ -36,7 +36,7 @@ use Rattle.maker_candidates.proofs.Owned.{producers_all}
 use Rattle.plan_maker.specs.Candidates.{ArePlaces, kinds_taken, last_places, or_barrier}
 use Rattle.plan_maker.specs.Meeting.{meets}
 use Rattle.plan_maker.specs.declared.search.Search.{Search}
-use Rattle.plan_maker.specs.Searches.{AreFresh, IsFresh, IsReady, IsSearch, kinds_in, phases_in}
+use Rattle.plan_maker.specs.Searches.{AreFresh, IsFresh, IsCurrent, IsSearch, kinds_in, phases_in}
 use Rattle.plan_maker.specs.Weakest.{candidates_in}
 use Rattle.plan_maker.proofs.Caches.{got_last}
 use Rattle.plan_maker.proofs.Ready.{seen}
@@ -118,7 +118,7 @@ fresh_none ps slots x caches meet h =
     let split : filter meets (slots ++ x ∷ []) ≡ filter meets slots = filter-append meets slots (x ∷ []) ∙ ap (λ b. filter meets slots ++ (if b then x ∷ [] else [])) meet ∙ append-nil (filter meets slots) in
     subst (λ xs. AllZip (IsFresh ps) xs caches) (sym split) h
 
-fresh-one : (p : Problem) (kinds : List Kind) (slot : Slot) (c : SlotCache) → IsFresh (phases_in p) slot c → slot_asked (tree_of p.program.now) p.plan.now slot (slot_signature p.plan.now.version kinds (phases_in p) slot) ≡ [] → IsReady p kinds c
+fresh-one : (p : Problem) (kinds : List Kind) (slot : Slot) (c : SlotCache) → IsFresh (phases_in p) slot c → slot_asked (tree_of p.program.now) p.plan.now slot (slot_signature p.plan.now.version kinds (phases_in p) slot) ≡ [] → IsCurrent p kinds c
 fresh-one p kinds slot c fresh none =
     let tree = tree_of p.program.now in
     let plan = p.plan.now in
@@ -130,7 +130,7 @@ fresh-one p kinds slot c fresh none =
     }
 
 pub fresh_ready : (p : Problem) (kinds : List Kind) (slots : List Slot) (caches : List SlotCache) → AllZip (IsFresh (phases_in p)) slots caches →
-    AllByRecursion (λ slot. slot_asked (tree_of p.program.now) p.plan.now slot (slot_signature p.plan.now.version kinds (phases_in p) slot) ≡ []) slots → All (IsReady p kinds) caches
+    AllByRecursion (λ slot. slot_asked (tree_of p.program.now) p.plan.now slot (slot_signature p.plan.now.version kinds (phases_in p) slot) ≡ []) slots → All (IsCurrent p kinds) caches
 fresh_ready p kinds [] [] h none k d lt = absurd (omega (arith, lt))
 fresh_ready p kinds [] (c ∷ caches) h none k d lt = absurd h
 fresh_ready p kinds (x ∷ slots) [] h none k d lt = absurd h
@@ -151,7 +151,7 @@ new_search s is last few fresh =
       candidates = is;
       places = subst (λ (cs : List (List Kind)). ArePlaces cs s.taken.items) (sym is) (subst (ArePlaces all) (sym taken) (places_last tree plan.cut.marks plan.workers plan.anchors (phases_in s.problem) 1 (phases_in s.problem)));
       few = omega (arith, ap length taken, places, long, few);
-      ready = subst (λ ks. All (IsReady s.problem ks) s.slots.items) (sym kinds) (fresh_ready s.problem (kinds_taken all (last_places all)) (filter meets (slots_of (phases_in s.problem))) s.slots.items fresh (none_asked tree plan));
+      ready = subst (λ ks. All (IsCurrent s.problem ks) s.slots.items) (sym kinds) (fresh_ready s.problem (kinds_taken all (last_places all)) (filter meets (slots_of (phases_in s.problem))) s.slots.items fresh (none_asked tree plan));
     }
 
 -- ---- the blocks of the candidates' producers have places

@@ -33,7 +33,7 @@ use Rattle.plan_maker.specs.Caches.{Grows, IsCache, IsEntry, IsHeld, IsRecalled,
 use Rattle.plan_maker.specs.Candidates.{ArePlaces, Choice, candidate, kinds_taken}
 use Rattle.plan_maker.specs.Judged.{IsVerdict, Judged}
 use Rattle.plan_maker.specs.PhaseCauses.{IsPhaseCause, touches}
-use Rattle.plan_maker.specs.Searches.{AreElsewhere, IsReady, IsSameSearch, IsSearch, IsTrialReason, IsTried, kinds_in, kinds_with, phases_in, slots_in}
+use Rattle.plan_maker.specs.Searches.{AreElsewhere, IsCurrent, IsSameSearch, IsSearch, IsTrialReason, IsTried, kinds_in, kinds_with, phases_in, slots_in}
 use Rattle.plan_maker.specs.Trials.{HasMoreCertificates, asked_of_slot, slots_asked}
 use Rattle.plan_maker.specs.Weakest.{candidates_in}
 use Rattle.plan_maker.proofs.Caches.{held_more}
@@ -43,7 +43,7 @@ use Rattle.plan_maker.proofs.TakenKinds.{place_earlier, places_long, untouched}
 -- ---- one slot
 
 -- what is known of a slot is kept as its verdicts get more
-pub ready_grown : (p : Problem) (kinds : List Kind) (old new : SlotCache) → Grows old new → IsCache (tree_of p.program.now) p.plan.now new → IsReady p kinds old → IsReady p kinds new
+pub ready_grown : (p : Problem) (kinds : List Kind) (old new : SlotCache) → Grows old new → IsCache (tree_of p.program.now) p.plan.now new → IsCurrent p kinds old → IsCurrent p kinds new
 ready_grown p kinds old new grown cache h =
     let tree = tree_of p.program.now in
     let plan = p.plan.now in
@@ -66,7 +66,7 @@ held_refuted tree plan slot g entries all (inr h) =
     (h.certificates.items, subst (λ k. AreRefuted (slot_asked tree plan slot k) h.certificates.items) h.key verdict)
 
 -- a slot of which nothing changes, or which was asked
-pub tried_untouched : (p : Problem) (u : ℕ) (kinds others : List Kind) (c : SlotCache) → AreElsewhere u kinds others → touches u (boundaries_seen c) ≡ false → IsReady p others c → IsReady p kinds c
+pub tried_untouched : (p : Problem) (u : ℕ) (kinds others : List Kind) (c : SlotCache) → AreElsewhere u kinds others → touches u (boundaries_seen c) ≡ false → IsCurrent p others c → IsCurrent p kinds c
 tried_untouched p u kinds others c same untouches h =
     let slot = slot_seen c.slot in
     let alike = untouched p.plan.now.version kinds others u slot (phases_in p) same (ap (touches u) (sym h.certain) ∙ untouches) in
@@ -75,7 +75,7 @@ tried_untouched p u kinds others c same untouches h =
 pub grows_not : (c : SlotCache) → Grows c c
 grows_not c = record { slot = refl; boundaries = refl; more = []; behind = sym (append-nil c.entries.items) }
 
-pub tried_asked : (p : Problem) (u : ℕ) (kinds others : List Kind) (old new : SlotCache) (o : Option Cause) → Grows old new → IsCache (tree_of p.program.now) p.plan.now new → touches u (boundaries_seen old) ≡ true → IsReady p others old →
+pub tried_asked : (p : Problem) (u : ℕ) (kinds others : List Kind) (old new : SlotCache) (o : Option Cause) → Grows old new → IsCache (tree_of p.program.now) p.plan.now new → touches u (boundaries_seen old) ≡ true → IsCurrent p others old →
     IsRecalled (tree_of p.program.now) p.plan.now (slot_seen new.slot) (signature_of p.plan.now.version kinds (boundaries_seen old)) new.entries.items o → IsTried p u kinds new o
 tried_asked p u kinds others old new None grown cache touched ready h =
     let grew = ready_grown p others old new grown cache ready in
@@ -92,12 +92,12 @@ abbrev pub seen : SlotCache → Slot
 seen c = slot_seen c.slot
 
 -- where all are ready the systems of all are refuted
-pub all_refuted : (p : Problem) (kinds : List Kind) (caches : List SlotCache) → All (IsReady p kinds) caches → (cs : List Certificate) × AreRefuted (slots_asked (tree_of p.program.now) p.plan.now kinds (map seen caches)) cs
+pub all_refuted : (p : Problem) (kinds : List Kind) (caches : List SlotCache) → All (IsCurrent p kinds) caches → (cs : List Certificate) × AreRefuted (slots_asked (tree_of p.program.now) p.plan.now kinds (map seen caches)) cs
 all_refuted p kinds [] all = ([], tt)
 all_refuted p kinds (c ∷ caches) all =
     let tree = tree_of p.program.now in
     let plan = p.plan.now in
-    let ready : IsReady p kinds c = all zero c (omega arith) in
+    let ready : IsCurrent p kinds c = all zero c (omega arith) in
     let here = held_refuted tree plan (seen c) (slot_signature plan.version kinds (phases_in p) (seen c)) c.entries.items ready.cache.entries ready.held in
     let rest = all_refuted p kinds caches (λ k d lt. all (suc k) d (omega (arith, lt))) in
     (here.0 ++ rest.0, refuted-append (asked_of_slot tree plan kinds (seen c)) (slots_asked tree plan kinds (map seen caches)) here.0 rest.0 here.1 rest.1)
@@ -116,42 +116,42 @@ module _ (old new : Search) (k : ℕ) (e c : SlotCache) (problem : new.problem �
 
   pub step_search : Grows e c → IsCache (tree_of old.problem.program.now) old.problem.plan.now c → IsSearch old → IsSearch new
   step_search grown cache h =
-      let was : IsReady old.problem (kinds_in old) e = subst (IsReady old.problem (kinds_in old)) (sym is) (h.ready k e lt) in
-      let all = All-set (IsReady old.problem (kinds_in old)) old.slots.items k c (ready_grown old.problem (kinds_in old) e c grown cache was) h.ready in
+      let was : IsCurrent old.problem (kinds_in old) e = subst (IsCurrent old.problem (kinds_in old)) (sym is) (h.ready k e lt) in
+      let all = All-set (IsCurrent old.problem (kinds_in old)) old.slots.items k c (ready_grown old.problem (kinds_in old) e c grown cache was) h.ready in
       record {
         candidates = ap (λ (cs : Vec (List Kind)). cs.items) candidates ∙ h.candidates ∙ ap (λ (p : Problem). candidates_in (tree_of p.program.now) p.plan.now) (sym problem);
         places = subst (λ (cs : Vec (List Kind)). ArePlaces cs.items new.taken.items) (sym candidates) (subst (λ (ts : Vec ℕ). ArePlaces old.candidates.items ts.items) (sym taken) h.places);
         few = subst (λ (ts : Vec ℕ). length ts.items < 2 ^ 20) (sym taken) h.few;
-        ready = subst (λ (p : Problem). All (IsReady p (kinds_in new)) new.slots.items) (sym problem)
-            (subst (λ ks. All (IsReady old.problem ks) new.slots.items) (sym kinds-same) (subst (All (IsReady old.problem (kinds_in old))) (sym slots) all));
+        ready = subst (λ (p : Problem). All (IsCurrent p (kinds_in new)) new.slots.items) (sym problem)
+            (subst (λ ks. All (IsCurrent old.problem ks) new.slots.items) (sym kinds-same) (subst (All (IsCurrent old.problem (kinds_in old))) (sym slots) all));
       }
 
-  module _ (kinds : List Kind) (before : (j : ℕ) (d : SlotCache) → j < k → IsReady old.problem kinds (get_or old.slots.items j d)) where
-    pub step_passed : IsReady old.problem kinds c → (j : ℕ) (d : SlotCache) → j < k + 1 → IsReady new.problem kinds (get_or new.slots.items j d)
+  module _ (kinds : List Kind) (before : (j : ℕ) (d : SlotCache) → j < k → IsCurrent old.problem kinds (get_or old.slots.items j d)) where
+    pub step_passed : IsCurrent old.problem kinds c → (j : ℕ) (d : SlotCache) → j < k + 1 → IsCurrent new.problem kinds (get_or new.slots.items j d)
     step_passed ready j d below =
-        subst (λ (p : Problem). IsReady p kinds (get_or new.slots.items j d)) (sym problem)
-        (subst (λ xs. IsReady old.problem kinds (get_or xs j d)) (sym slots) (by (nat_lt j k) refl))
+        subst (λ (p : Problem). IsCurrent p kinds (get_or new.slots.items j d)) (sym problem)
+        (subst (λ xs. IsCurrent old.problem kinds (get_or xs j d)) (sym slots) (by (nat_lt j k) refl))
       where
-        by : (b : Bool) → nat_lt j k ≡ b → IsReady old.problem kinds (get_or (set old.slots.items k c) j d)
+        by : (b : Bool) → nat_lt j k ≡ b → IsCurrent old.problem kinds (get_or (set old.slots.items k c) j d)
         by true less =
             let lower : j < k = grind (arith, nat_tests) in
             let other : j ≢ k = λ same. absurd (omega (arith, same, lower)) in
-            subst (IsReady old.problem kinds) (sym (get_or-set_other old.slots.items k j c d other)) (before j d lower)
+            subst (IsCurrent old.problem kinds) (sym (get_or-set_other old.slots.items k j c d other)) (before j d lower)
         by false more =
             let same : j ≡ k = grind (arith, nat_tests) in
-            subst (λ i. IsReady old.problem kinds (get_or (set old.slots.items k c) i d)) (sym same) (subst (IsReady old.problem kinds) (sym (get_or-set_same old.slots.items k c d lt)) ready)
+            subst (λ i. IsCurrent old.problem kinds (get_or (set old.slots.items k c) i d)) (sym same) (subst (IsCurrent old.problem kinds) (sym (get_or-set_same old.slots.items k c d lt)) ready)
 
     -- and the first system that is kept is one of it
     pub step_kept : (u : ℕ) (cause : Cause) → IsTried old.problem u kinds c (Some cause) → IsPhaseCause (tree_of new.problem.program.now) new.problem.plan.now kinds u [] (slots_in new) cause
     step_kept u cause tried =
         let xs = set old.slots.items k c in
         let inside : k < length xs = simp length-set lt in
-        let ready : All (IsReady old.problem kinds) (take k xs) =
+        let ready : All (IsCurrent old.problem kinds) (take k xs) =
         λ j d low.
         let long : length (take k xs) ≡ k = length-take-le k xs (omega (arith, inside)) in
         let lower : j < k = omega (arith, low, long) in
         let other : j ≢ k = λ same. absurd (omega (arith, same, lower)) in
-        subst (IsReady old.problem kinds) (sym (get_or-take k xs j d lower ∙ get_or-set_other old.slots.items k j c d other)) (before j d lower) in
+        subst (IsCurrent old.problem kinds) (sym (get_or-take k xs j d lower ∙ get_or-set_other old.slots.items k j c d other)) (before j d lower) in
         let certificates = all_refuted old.problem kinds (take k xs) ready in
         let front : c ≡ get_or xs k c = sym (get_or-set_same old.slots.items k c c lt) in
         let whole : map seen xs ≡ map seen (take k xs) ++ seen c ∷ map seen (drop (k + 1) xs) =
@@ -169,15 +169,15 @@ module _ (old new : Search) (k : ℕ) (e c : SlotCache) (problem : new.problem �
 
 -- another candidate taken in front of a phase, with which each slot is ready
 pub taken_search : (old new : Search) (t i j : ℕ) → new.problem ≡ old.problem → new.candidates ≡ old.candidates → new.slots ≡ old.slots → new.taken.items ≡ slice_set old.taken.items t i → slice_get old.taken.items t ≡ Some j → i < j → IsSearch old →
-    All (IsReady old.problem (kinds_with old (record { phase = t; place = i }))) old.slots.items → IsSearch new
+    All (IsCurrent old.problem (kinds_with old (record { phase = t; place = i }))) old.slots.items → IsSearch new
 taken_search old new t i j problem candidates slots taken at lt h ready =
     let kinds : kinds_in new ≡ kinds_with old (record { phase = t; place = i }) = ap₂ (λ (cs : Vec (List Kind)) ts. kinds_taken cs.items ts) candidates taken in
     record {
       candidates = ap (λ (cs : Vec (List Kind)). cs.items) candidates ∙ h.candidates ∙ ap (λ (p : Problem). candidates_in (tree_of p.program.now) p.plan.now) (sym problem);
       places = subst (λ (cs : Vec (List Kind)). ArePlaces cs.items new.taken.items) (sym candidates) (subst (ArePlaces old.candidates.items) (sym taken) (place_earlier old.candidates.items old.taken.items t i j at lt h.places));
       few = let long : length new.taken.items ≡ length old.taken.items = ap length taken ∙ simp length-set in omega (arith, long, h.few);
-      ready = subst (λ (p : Problem). All (IsReady p (kinds_in new)) new.slots.items) (sym problem)
-          (subst (λ (v : Vec SlotCache). All (IsReady old.problem (kinds_in new)) v.items) (sym slots) (subst (λ ks. All (IsReady old.problem ks) old.slots.items) (sym kinds) ready));
+      ready = subst (λ (p : Problem). All (IsCurrent p (kinds_in new)) new.slots.items) (sym problem)
+          (subst (λ (v : Vec SlotCache). All (IsCurrent old.problem (kinds_in new)) v.items) (sym slots) (subst (λ ks. All (IsCurrent old.problem ks) old.slots.items) (sym kinds) ready));
     }
 
 -- ---- searches that are the same but for what is taken

@@ -49,7 +49,7 @@ abbrev pub kinds_with : Search → Choice → List Kind
 kinds_with s c = kinds_taken s.candidates.items (slice_set s.taken.items c.phase c.place)
 
 -- the boundaries of a slot are its certain ones, its verdicts are true, and under these kinds its systems are refuted
-pub record IsReady (p : Problem) (kinds : List Kind) (c : SlotCache) : Type 0 where
+pub record IsCurrent (p : Problem) (kinds : List Kind) (c : SlotCache) : Type 0 where
   pub certain : boundaries_seen c ≡ certain_of (slot_seen c.slot) (phases_in p)
   pub cache : IsCache (tree_of p.program.now) p.plan.now c
   pub held : IsHeld (tree_of p.program.now) p.plan.now (slot_seen c.slot) (slot_signature p.plan.now.version kinds (phases_in p) (slot_seen c.slot)) c.entries.items
@@ -59,7 +59,7 @@ pub record IsSearch (s : Search) : Type 0 where
   pub candidates : s.candidates.items ≡ candidates_in (tree_of s.problem.program.now) s.problem.plan.now
   pub places : ArePlaces s.candidates.items s.taken.items
   pub few : length s.taken.items < 2 ^ 20
-  pub ready : All (IsReady s.problem (kinds_in s)) s.slots.items
+  pub ready : All (IsCurrent s.problem (kinds_in s)) s.slots.items
 
 -- the same but for what is taken and for verdicts
 pub record IsSameSearch (old new : Search) : Type 0 where
@@ -73,18 +73,18 @@ AreElsewhere u kinds others = (k : ℕ) → suc k ≢ u → slice_get kinds k �
 
 -- of a slot: under these kinds its systems are refuted, or it has the boundary in front of the phase with this number among its certain ones, and this is its first system that is kept
 abbrev pub IsTried : Problem → ℕ → List Kind → SlotCache → Option Cause → Type 0
-IsTried p u kinds c None = IsReady p kinds c
+IsTried p u kinds c None = IsCurrent p kinds c
 IsTried p u kinds c (Some cause) = (touches u (certain_of (slot_seen c.slot) (phases_in p)) ≡ true) × IsCause (asked_of_slot (tree_of p.program.now) p.plan.now kinds (slot_seen c.slot)) cause
 
 -- a slot was tried with these kinds, which differ from others in front of the phase with this number alone
 pub record HasTried (p : Problem) (trial : Trial) (old new : SlotCache) (outcome : Option Cause) : Type 0 where
   pub cache : IsCache (tree_of p.program.now) p.plan.now new
   pub grown : Grows old new
-  pub tried : (others : List Kind) → AreElsewhere trial.phase trial.kinds.now others → IsReady p others old → IsTried p trial.phase trial.kinds.now new outcome
+  pub tried : (others : List Kind) → AreElsewhere trial.phase trial.kinds.now others → IsCurrent p others old → IsTried p trial.phase trial.kinds.now new outcome
 
 -- under these kinds the systems of each slot are refuted, or the first that is kept is one of a slot with the boundary in front of the phase with this number
 abbrev pub IsTrial : Search → ℕ → List Kind → Option Cause → Type 0
-IsTrial s u kinds None = All (IsReady s.problem kinds) s.slots.items
+IsTrial s u kinds None = All (IsCurrent s.problem kinds) s.slots.items
 IsTrial s u kinds (Some cause) = IsPhaseCause (tree_of s.problem.program.now) s.problem.plan.now kinds u [] (slots_in s) cause
 
 -- with another choice a system is kept: this is the first

@@ -11,7 +11,7 @@ use Rattle.spmd_model.specs.Cells.{changed}
 use Rattle.spmd_model.specs.Timelines.{Act, post, await, load, store, add, print, Job, Machine, Moment, Word, counter, signal, boundary, job, act_at, acts_of}
 use Rattle.spmd_model.specs.States.{first_state, run_of, stepped}
 use Rattle.spmd_model.specs.Sequential.{registers_at, stored_at, value_at}
-use Rattle.spmd_model.specs.Ordered.{IsOrdered, IsSound}
+use Rattle.spmd_model.specs.Ordered.{IsOrderedMachine, IsSound}
 use Rattle.spmd_model.specs.Lawful.{IsLawful, acts_in_front, counter_at, is_done, last_value_from, last_value_where, printed_at, stores_to}
 use Rattle.spmd_model.specs.Reached.{IsPossibleAt, memory_by, state_at}
 use Rattle.spmd_model.proofs.ActLaws as law
@@ -113,7 +113,7 @@ module _ (m : Machine) (sound : IsSound m) (a : ℕ → ℕ) (cells : List ℤ) 
     | inr on ↦ inr on
   ]
 
-  module _ (ordered : IsOrdered m) where
+  module _ (ordered : IsOrderedMachine m) where
     -- a schedule leads to these places
     abbrev Leads : (ℕ → ℕ) → Type 0
     Leads b = (schedule : List ℕ) × (memory : List ℤ) × All (λ p. p < m.workers) schedule × (run_of m schedule ≡ state_at m memory b) × IsLawful m memory b

@@ -9,8 +9,8 @@ use Rattle.nest_model.specs.Memory.{cell_value}
 use Rattle.spmd_model.specs.Cells.{plus, with_change}
 use Rattle.spmd_model.specs.Timelines.{Act, post, await, load, store, add, print, Job, Machine, Moment, Word, boundary, job, act_at, acts_from, acts_of}
 use Rattle.spmd_model.specs.States.{assigned_by}
-use Rattle.spmd_model.specs.Sequential.{last_memory, loads_by, memory_at, memory_behind, stored_at, value_at}
-use Rattle.spmd_model.specs.Ordered.{IsOrdered, IsSound, Needs}
+use Rattle.spmd_model.specs.Sequential.{memory_at_end, loads_by, memory_at, memory_behind, stored_at, value_at}
+use Rattle.spmd_model.specs.Ordered.{IsOrderedMachine, IsSound, Needs}
 use Rattle.spmd_model.specs.Lawful.{IsLawful, IsPosted, Moves, acts_in_front, is_done, last_value, stores_to}
 use Rattle.spmd_model.proofs.ActLists.{Found, found, in_front-rises}
 use Rattle.spmd_model.proofs.MomentActs.{IsAwaitIn, IsChangeIn, IsLastIn, IsLoadIn, IsPostIn, tells}
@@ -47,7 +47,7 @@ at_load m p n t cell e =
     subst (λ u. (j : Job) × IsAt m p n u j × Needs j cell × (n + 1 < acts_in_front m p (suc u))) (sym l.place)
     (l.job_is, record { at = there; owner = l.owner; from = s.from; to = s.to }, loads_cell l.job_is f.index cell l.is, omega (arith, acts, within, f.number))
 
-pub gives : (m : Machine) (cells : List ℤ) (at : ℕ → ℕ) (p t cell : ℕ) → IsSound m → IsOrdered m → IsLawful m cells at → act_at m p (at p) ≡ Some (load t cell) → cell_value cells cell ≡ cell_value (memory_at m t) cell
+pub gives : (m : Machine) (cells : List ℤ) (at : ℕ → ℕ) (p t cell : ℕ) → IsSound m → IsOrderedMachine m → IsLawful m cells at → act_at m p (at p) ≡ Some (load t cell) → cell_value cells cell ≡ cell_value (memory_at m t) cell
 gives m cells at p t cell sound ordered law e =
     let (j, here, among, more) = at_load m p (at p) t cell e in
     ⊎_elim (λ lt. law.holds cell lt ∙ agree m cell (is_done m at) (in_front_of t) (agrees_in_front m cells at p t cell j sound ordered law here among) ∙ sequential m cell t lt)
@@ -151,7 +151,7 @@ by_print m cells at after p t inside law e moves =
     let none : k.store ≡ None = ap (λ (x : Job). x.store) (sym equal) ∙ stores_none in
     absurd (true≢false (sym stores ∙ ap (λ o. stores_to o c) none)))) (λ w q n same. absurd (cc))
 
-pub by_store : (m : Machine) (cells : List ℤ) (at after : ℕ → ℕ) (p t cell : ℕ) → p < m.workers → IsSound m → IsOrdered m → IsLawful m cells at → act_at m p (at p) ≡ Some (store t cell) → Moves at after p (at p + 1) →
+pub by_store : (m : Machine) (cells : List ℤ) (at after : ℕ → ℕ) (p t cell : ℕ) → p < m.workers → IsSound m → IsOrderedMachine m → IsLawful m cells at → act_at m p (at p) ≡ Some (store t cell) → Moves at after p (at p + 1) →
     IsLawful m (slice_set cells cell (stored_at m p (at p))) after
 by_store m cells at after p t cell inside sound ordered law e moves =
     let f = found m p (at p) (store t cell) e in
@@ -190,7 +190,7 @@ by_store m cells at after p t cell inside sound ordered law e moves =
         ∙ ap (λ b. if b then j.assigned (map (cell_value (memory_at m t)) j.loads) else cell_value (memory_at m t) cell) (eq-eqb cell cell refl)
         ∙ sym (ap (λ o. assigned_by o (map (cell_value (memory_at m t)) (loads_by o))) here.at)
 
-pub by_add : (m : Machine) (cells : List ℤ) (at after : ℕ → ℕ) (p t cell : ℕ) → p < m.workers → IsSound m → IsOrdered m → IsLawful m cells at → act_at m p (at p) ≡ Some (add t cell) → Moves at after p (at p + 1) →
+pub by_add : (m : Machine) (cells : List ℤ) (at after : ℕ → ℕ) (p t cell : ℕ) → p < m.workers → IsSound m → IsOrderedMachine m → IsLawful m cells at → act_at m p (at p) ≡ Some (add t cell) → Moves at after p (at p + 1) →
     IsLawful m (slice_set cells cell (plus (cell_value cells cell) (stored_at m p (at p)))) after
 by_add m cells at after p t cell inside sound ordered law e moves =
     let f = found m p (at p) (add t cell) e in
@@ -226,7 +226,7 @@ by_add m cells at after p t cell inside sound ordered law e moves =
 
 -- ---- the end
 
-pub ended : (m : Machine) (cells : List ℤ) (at : ℕ → ℕ) → IsSound m → IsLawful m cells at → ((p : ℕ) → p < m.workers → at p ≡ length (acts_of m p)) → (cell : ℕ) → cell < m.cells → cell_value cells cell ≡ cell_value (last_memory m) cell
+pub ended : (m : Machine) (cells : List ℤ) (at : ℕ → ℕ) → IsSound m → IsLawful m cells at → ((p : ℕ) → p < m.workers → at p ≡ length (acts_of m p)) → (cell : ℕ) → cell < m.cells → cell_value cells cell ≡ cell_value (memory_at_end m) cell
 ended m cells at sound law end cell lt =
     let n = length m.timeline in
     law.holds cell lt

@@ -5,7 +5,7 @@ use Rattle.std.specs.List.{Contains}
 use Rattle.std.proofs.lemmas.Bool.{cases_eq, cases_lt}
 use Rattle.std.proofs.lemmas.Option.{slice_get_within}
 use Rattle.spmd_model.specs.Timelines.{post, await, Job, Machine, Moment, Word, boundary, job, act_at, moment_acts}
-use Rattle.spmd_model.specs.Ordered.{Conflict, Hop, IsChain, IsOrdered, IsSound, awaited_in, number_in}
+use Rattle.spmd_model.specs.Ordered.{Conflict, Hop, IsChain, IsOrderedMachine, IsSound, awaited_in, number_in}
 use Rattle.spmd_model.specs.Lawful.{IsLawful, acts_in_front}
 use Rattle.spmd_model.proofs.ActLists.{act_of_moment, found, in_front-more, in_front-rises}
 use Rattle.spmd_model.proofs.MomentActs.{IsPostIn, await_there, tells}
@@ -73,7 +73,7 @@ pub record IsAt (m : Machine) (p n t : ℕ) (j : Job) : Type 0 where
   pub to : n < acts_in_front m p (suc t)
 
 -- the earlier ones are done
-pub earlier_done : (m : Machine) (cells : List ℤ) (at : ℕ → ℕ) (p t u : ℕ) (j k : Job) → IsSound m → IsOrdered m → IsLawful m cells at → IsAt m p (at p) t j → slice_get m.timeline u ≡ Some (job k) → u < t → Conflict k j →
+pub earlier_done : (m : Machine) (cells : List ℤ) (at : ℕ → ℕ) (p t u : ℕ) (j k : Job) → IsSound m → IsOrderedMachine m → IsLawful m cells at → IsAt m p (at p) t j → slice_get m.timeline u ≡ Some (job k) → u < t → Conflict k j →
     acts_in_front m k.owner (suc u) ≤ at k.owner
 earlier_done m cells at p t u j k sound ordered law here there lt conflict = ⊎_elim
     (λ same. let rise = in_front-rises m p (suc u) t (omega (arith, lt)) in subst (λ o. acts_in_front m o (suc u) ≤ at o) (sym (same ∙ here.owner)) (omega (arith, rise, here.from)))
@@ -82,7 +82,7 @@ earlier_done m cells at p t u j k sound ordered law here there lt conflict = ⊎
     chain_back m cells at k.owner u chain.0 j.owner t sound law chain.1 (subst (λ o. acts_in_front m o t ≤ at o) (sym here.owner) here.from)) (cases_eq k.owner j.owner)
 
 -- and the later ones are not
-pub later_not : (m : Machine) (cells : List ℤ) (at : ℕ → ℕ) (p t u : ℕ) (j k : Job) → IsSound m → IsOrdered m → IsLawful m cells at → IsAt m p (at p) t j → slice_get m.timeline u ≡ Some (job k) → t < u → Conflict j k →
+pub later_not : (m : Machine) (cells : List ℤ) (at : ℕ → ℕ) (p t u : ℕ) (j k : Job) → IsSound m → IsOrderedMachine m → IsLawful m cells at → IsAt m p (at p) t j → slice_get m.timeline u ≡ Some (job k) → t < u → Conflict j k →
     at k.owner < acts_in_front m k.owner (suc u)
 later_not m cells at p t u j k sound ordered law here there lt conflict = ⊎_elim (λ less. less) (λ done. absurd (omega (arith, never done))) (cases_lt (at k.owner) (acts_in_front m k.owner (suc u)))
   where

@@ -8,7 +8,7 @@ use Rattle.std.proofs.lemmas.Grind.{flat_map-append}
 use Rattle.std.proofs.lemmas.List.{append-nil, ext_get_or, length-replicate, take-append-drop, take_all}
 use Rattle.spmd_model.specs.Timelines.{await, load, Job, Machine, Moment, Word, boundary, job, boundary_acts, job_acts, last_act, moment_acts, acts_from, acts_of}
 use Rattle.spmd_model.specs.States.{State, IsEnded, line_by}
-use Rattle.spmd_model.specs.Sequential.{given_at, last_memory, loads_by, memory_at, moment_line, output_along, printed_line, whole_output}
+use Rattle.spmd_model.specs.Sequential.{given_at, memory_at_end, loads_by, memory_at, moment_line, output_along, printed_line, whole_output}
 use Rattle.spmd_model.specs.Ordered.{IsSound}
 use Rattle.spmd_model.specs.Lawful.{IsLawful, act_line, printed_at}
 use Rattle.spmd_model.specs.Reached.{IsSequential, positions_of}
@@ -75,10 +75,10 @@ ended_output m s some sound seq end =
     seq.output ∙ ap (printed_at m 0) (end 0 some) ∙ ap (flat_map (act_line m)) (take_all (length (acts_of m 0)) (acts_of m 0) (omega arith)) ∙ prints_whole m sound
 
 -- lawful memory is the last one where all have ended
-pub whole_memory : (m : Machine) (memory : List ℤ) (at : ℕ → ℕ) → IsSound m → IsLawful m memory at → ((p : ℕ) → p < m.workers → at p ≡ length (acts_of m p)) → memory ≡ last_memory m
+pub whole_memory : (m : Machine) (memory : List ℤ) (at : ℕ → ℕ) → IsSound m → IsLawful m memory at → ((p : ℕ) → p < m.workers → at p ≡ length (acts_of m p)) → memory ≡ memory_at_end m
 whole_memory m memory at sound law end =
-    let size : length (last_memory m) ≡ m.cells = folded_size (replicate m.cells (pos 0)) m.timeline ∙ length-replicate m.cells (pos 0) in
-    ext_get_or (pos 0) memory (last_memory m) (law.size ∙ sym size) (λ i lt. ended m memory at sound law end i (omega (arith, lt, law.size)))
+    let size : length (memory_at_end m) ≡ m.cells = folded_size (replicate m.cells (pos 0)) m.timeline ∙ length-replicate m.cells (pos 0) in
+    ext_get_or (pos 0) memory (memory_at_end m) (law.size ∙ sym size) (λ i lt. ended m memory at sound law end i (omega (arith, lt, law.size)))
 
-pub ended_memory : (m : Machine) (s : State) → IsSound m → IsSequential m s → IsEnded m s → s.memory ≡ last_memory m
+pub ended_memory : (m : Machine) (s : State) → IsSound m → IsSequential m s → IsEnded m s → s.memory ≡ memory_at_end m
 ended_memory m s sound seq end = whole_memory m s.memory (positions_of s) sound seq.lawful end

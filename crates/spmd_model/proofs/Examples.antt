@@ -2,7 +2,7 @@
 use Rattle.std.proofs.Common.{◌≡◌, ◌≢◌, ◌⊎◌, ℕ, zero, suc, pos, true, false, true≢false, List, [], ◌∷◌, Some, refl, inl, inr, arith}
 use Rattle.std.specs.Prelude.{slice_get}
 use Rattle.std.specs.List.{Contains}
-use Rattle.spmd_model.specs.Ordered.{Conflict, Hop, IsChain, IsOrdered, Needs, awaited_in}
+use Rattle.spmd_model.specs.Ordered.{Conflict, Hop, IsChain, IsOrderedMachine, Needs, awaited_in}
 use Rattle.spmd_model.specs.Rounds.{AreEnough}
 use Rattle.spmd_model.specs.Examples.{fixed, from_cell, heedless, waiting}
 
@@ -22,7 +22,7 @@ nobody_waits (suc (suc (suc (suc zero)))) p q (k, lt, e) = omega (arith, lt)
 nobody_waits (suc (suc (suc (suc (suc n))))) p q (k, lt, e) = omega (arith, lt)
 
 -- without the wait the timeline isn't ordered
-unordered-example : IsOrdered heedless → ⊥
+unordered-example : IsOrderedMachine heedless → ⊥
 unordered-example ordered = let chain = ordered 2 4 (fixed (pos 8) 1 1) (from_cell false 0 1 0) (omega arith) refl refl clash-example (λ e. omega (arith, e)) in by chain.0 chain.1
   where
     by : (hops : List Hop) → IsChain heedless 1 2 hops 0 4 → ⊥

@@ -8,8 +8,8 @@ use Rattle.std.proofs.lemmas.List.{append-nil, take_all}
 use Rattle.spmd_model.specs.Deeds.{Deed, adding, deed_of, printing, storing}
 use Rattle.spmd_model.specs.States.{line_by}
 use Rattle.spmd_model.proofs.Registers.{print_whole}
-use Rattle.spmd_model.specs.Ordered.{IsOrdered, IsSound}
-use Rattle.spmd_model.specs.Sequential.{last_memory, loaded_at, loaded_by, registers_at, stored_at, stored_by, whole_output}
+use Rattle.spmd_model.specs.Ordered.{IsOrderedMachine, IsSound}
+use Rattle.spmd_model.specs.Sequential.{memory_at_end, loaded_at, loaded_by, registers_at, stored_at, stored_by, whole_output}
 use Rattle.spmd_model.specs.Shared.{AreLawful}
 use Rattle.spmd_model.specs.Timelines.{Act, post, await, load, store, add, print, Machine, counter, act_at, acts_of}
 use Rattle.spmd_model.proofs.ActLists.{found}
@@ -45,13 +45,13 @@ printer_is m p n t sound e =
 -- what the laws ask of a machine whose processors share so many cells
 pub record Suits (m : Machine) (shared : ℕ) (gathered : ℕ → Bool) (last : List ℤ) (output : List ℕ) : Type 0 where
   pub sound : IsSound m
-  pub ordered : IsOrdered m
+  pub ordered : IsOrderedMachine m
   pub some : shared ≤ m.cells
   pub few : m.workers ≤ 64
   pub added : (p n place cell : ℕ) → act_at m p n ≡ Some (add place cell) → cell < shared
   pub all : AreAll m gathered
   pub arrive : (p n : ℕ) → arrivals gathered (take n (acts_of m p)) ≤ 2 ^ 40
-  pub ends : take shared (last_memory m) ≡ last
+  pub ends : take shared (memory_at_end m) ≡ last
   pub prints : whole_output m ≡ output
 
 abbrev pub protocol_along : Machine → ℕ → (ℕ → Bool) → List ℤ → List ℕ → Protocol

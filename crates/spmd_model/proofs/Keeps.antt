@@ -6,7 +6,7 @@ use Rattle.std.proofs.lemmas.List.{length-append, length-map}
 use Rattle.std.proofs.lemmas.Option.{slice_get_within}
 use Rattle.list_lemmas.proofs.Elements.{contains_at}
 use Rattle.spmd_model.specs.Timelines.{Act, load, Job, Machine, job, act_at, acts_of, last_act, moment_acts}
-use Rattle.spmd_model.specs.Ordered.{Conflict, IsOrdered, IsSound, Needs}
+use Rattle.spmd_model.specs.Ordered.{Conflict, IsOrderedMachine, IsSound, Needs}
 use Rattle.spmd_model.specs.Lawful.{IsLawful, Moves, acts_in_front, is_done, stores_to}
 use Rattle.spmd_model.proofs.ActLists.{Found, in_front-more, in_front-rises}
 use Rattle.spmd_model.proofs.MomentActs.{own_acts}
@@ -66,7 +66,7 @@ store_is None cell h = absurd (true≢false (sym h))
 store_is (Some c) cell h = ap Some (eqb-true c cell h)
 
 -- where a processor is at a job that needs the cell for itself, the jobs that change the cell are done exactly if they stand in front of it
-pub agrees_in_front : (m : Machine) (cells : List ℤ) (at : ℕ → ℕ) (p t cell : ℕ) (j : Job) → IsSound m → IsOrdered m → IsLawful m cells at → IsAt m p (at p) t j → Needs j cell → Agree m cell (is_done m at) (in_front_of t)
+pub agrees_in_front : (m : Machine) (cells : List ℤ) (at : ℕ → ℕ) (p t cell : ℕ) (j : Job) → IsSound m → IsOrderedMachine m → IsLawful m cells at → IsAt m p (at p) t j → Needs j cell → Agree m cell (is_done m at) (in_front_of t)
 agrees_in_front m cells at p t cell j sound ordered law here among u k there stores =
     let stored = store_is k.store cell stores in
     ⊎_elim
@@ -84,7 +84,7 @@ agrees_in_front m cells at p t cell j sound ordered law here among u k there sto
         (cases_eq t u)
 
 -- where it is at a job that adds to the cell, a job that stores to it is done exactly if it stands in front of that
-pub stores_in_front : (m : Machine) (cells : List ℤ) (at : ℕ → ℕ) (p t cell : ℕ) (j : Job) → IsSound m → IsOrdered m → IsLawful m cells at → IsAt m p (at p) t j → j.store ≡ Some cell → (u : ℕ) (k : Job) → slice_get m.timeline u ≡ Some (job k) → stores_to k.store cell ≡ true → t < u → is_done m at u k ≡ true →
+pub stores_in_front : (m : Machine) (cells : List ℤ) (at : ℕ → ℕ) (p t cell : ℕ) (j : Job) → IsSound m → IsOrderedMachine m → IsLawful m cells at → IsAt m p (at p) t j → j.store ≡ Some cell → (u : ℕ) (k : Job) → slice_get m.timeline u ≡ Some (job k) → stores_to k.store cell ≡ true → t < u → is_done m at u k ≡ true →
     k.adds ≡ true
 stores_in_front m cells at p t cell j sound ordered law here changes u k there stores later done = elim (cases_Bool k.adds) [
   | inl adds ↦ adds

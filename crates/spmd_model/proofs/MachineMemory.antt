@@ -27,7 +27,7 @@ use Rattle.spmd_model.specs.Closings.{closings_of}
 use Rattle.spmd_model.specs.OwnPhases.{behind_job, own_job}
 use Rattle.spmd_model.specs.Planned.{boundary_of}
 use Rattle.spmd_model.specs.Rounds.{round_boundary, rounds_in, rounds_of}
-use Rattle.spmd_model.specs.Sequential.{last_memory, memory_behind}
+use Rattle.spmd_model.specs.Sequential.{memory_at_end, memory_behind}
 use Rattle.spmd_model.specs.Machines.{boundaries_by, cells_under, instance_jobs, is_by_signals, machine_by, moments_of, part_of, parts_from, signal_barriers}
 use Rattle.spmd_model.specs.Timelines.{Job, job}
 use Rattle.spmd_model.specs.declared.style.Style.{Style}
@@ -221,10 +221,10 @@ module _ (style : Style) (tree : Tree) (plan : Plan) (formed : IsWellFormed tree
       zeros (suc n) (suc c) = zeros n c
 
   -- the shared cells of the last memory are those of the program's
-  pub last_follows : Follows tree plan (Model.last_memory tree) (last_memory (machine_by style tree plan))
+  pub last_follows : Follows tree plan (Model.last_memory tree) (memory_at_end (machine_by style tree plan))
   last_follows =
       let all = phases_follow 0 0 (phases tree plan.cut.marks) (first_memory tree) (replicate (cells_under tree plan) (pos 0)) (λ n w at. let same : 0 + n ≡ n = omega arith in ap (slice_get (phases tree plan.cut.marks)) same ∙ at) at_start in
-      subst (λ is. Follows tree plan (fold (memory_after tree) (first_memory tree) is) (last_memory (machine_by style tree plan))) (all_executed tree plan.cut.marks) all
+      subst (λ is. Follows tree plan (fold (memory_after tree) (first_memory tree) is) (memory_at_end (machine_by style tree plan))) (all_executed tree plan.cut.marks) all
 
 -- lists with the same cells
 same_cells : (n : ℕ) (xs ys : List ℤ) → length ys ≡ n → n ≤ length xs → ((c : ℕ) → c < n → cell_value xs c ≡ cell_value ys c) → take n xs ≡ ys
@@ -234,7 +234,7 @@ same_cells (suc n) xs [] size long same = absurd (omega (arith, size))
 same_cells (suc n) [] (y ∷ ys) size long same = absurd (omega (arith, long))
 same_cells (suc n) (x ∷ xs) (y ∷ ys) size long same = ap (λ z. z ∷ take n xs) (same 0 (omega arith)) ∙ ap (λ l. y ∷ l) (same_cells n xs ys (omega (arith, size)) (omega (arith, long)) (λ c lt. same (suc c) (omega (arith, lt))))
 
-pub shared_last : (style : Style) (tree : Tree) (plan : Plan) → IsWellFormed tree → IsFit tree plan → IsInRange tree → AreStoredFirst tree plan → take (cell_count tree) (last_memory (machine_by style tree plan)) ≡ Model.last_memory tree
+pub shared_last : (style : Style) (tree : Tree) (plan : Plan) → IsWellFormed tree → IsFit tree plan → IsInRange tree → AreStoredFirst tree plan → take (cell_count tree) (memory_at_end (machine_by style tree plan)) ≡ Model.last_memory tree
 shared_last style tree plan formed fits ranges stored =
     let f = last_follows style tree plan formed fits ranges stored in
-    same_cells (cell_count tree) (last_memory (machine_by style tree plan)) (Model.last_memory tree) f.size (omega (arith, f.own_size)) f.shared
+    same_cells (cell_count tree) (memory_at_end (machine_by style tree plan)) (Model.last_memory tree) f.size (omega (arith, f.own_size)) f.shared

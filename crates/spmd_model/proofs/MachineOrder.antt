@@ -14,13 +14,13 @@ use Rattle.owner_partition.specs.Phases.{executions, phase_instances, phases}
 use Rattle.sync_plan.specs.declared.plan.Plan.{Plan}
 use Rattle.sync_plan.specs.Conflicts.{ConflictUnder, owner_under}
 use Rattle.sync_plan.specs.Fit.{IsFit}
-use Rattle.sync_plan.specs.Ordered.{IsChain as IsPlanChain, IsOrdered as IsOrderedPlan, Hop as PlanHop}
+use Rattle.sync_plan.specs.Ordered.{IsChain as IsPlanChain, IsOrdered, Hop as PlanHop}
 use Rattle.sync_plan.specs.Own.{is_cell_of, own_loop}
 use Rattle.sync_plan.specs.Stored.{AreStoredFirst}
 use Rattle.sync_plan.proofs.Fits.{fit_parts}
 use Rattle.spmd_model.specs.Lawful.{IsLawful, acts_in_front}
 use Rattle.spmd_model.specs.Closings.{last_owner, phase_owner}
-use Rattle.spmd_model.specs.Ordered.{Conflict, Hop, IsChain, IsOrdered, IsSound, Needs}
+use Rattle.spmd_model.specs.Ordered.{Conflict, Hop, IsChain, IsOrderedMachine, IsSound, Needs}
 use Rattle.spmd_model.specs.Rounds.{rounds_of}
 use Rattle.spmd_model.specs.Machines.{machine_by, part_place, parts_by, timeline_by, is_by_signals}
 use Rattle.spmd_model.specs.Timelines.{Job, job}
@@ -90,7 +90,7 @@ no_chain : (tree : Tree) (plan : Plan) (q e : ℕ) (hops : List PlanHop) (p : �
 no_chain tree plan q e [] p (same, le) = same
 no_chain tree plan q e (h ∷ hops) p (lt, among, rest) = absurd (let last = last_phase tree plan h.processor h.phase hops p e rest in omega (arith, lt, last))
 
-module _ (style : Style) (tree : Tree) (plan : Plan) (formed : IsWellFormed tree) (fits : IsFit tree plan) (ranges : IsInRange tree) (ordered : IsOrderedPlan tree plan) where
+module _ (style : Style) (tree : Tree) (plan : Plan) (formed : IsWellFormed tree) (fits : IsFit tree plan) (ranges : IsInRange tree) (ordered : IsOrdered tree plan) where
   -- two jobs of one phase that conflict have one owner
   module _ (k : ℕ) (v : Visit) (at : slice_get (phases tree plan.cut.marks) k ≡ Some v) (i j : Job) (x : Stands tree plan (1 + k) v i) (y : Stands tree plan (1 + k) v j) (c : ℕ) (below : c < cell_count tree) where
     -- two instances
@@ -177,7 +177,7 @@ module _ (style : Style) (tree : Tree) (plan : Plan) (formed : IsWellFormed tree
   needed : (i j : Job) (c : Conflict i j) → Needs i c.cell ⊎ Needs j c.cell
   needed i j c = elim c.clash [ inl h ↦ inl h.0 | inr h ↦ inr h.1 ]
 
-  pub ordered_by : IsOrdered (machine_by style tree plan)
+  pub ordered_by : IsOrderedMachine (machine_by style tree plan)
   ordered_by t u i j lt at at' conflict apart =
       let x = stands_for style tree plan t i formed fits ordered.stored at in
       let y = stands_for style tree plan u j formed fits ordered.stored at' in

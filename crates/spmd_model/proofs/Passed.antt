@@ -4,7 +4,7 @@ use Rattle.std.specs.Prelude.{slice_get}
 use Rattle.std.proofs.Math.Path.{fun_ext}
 use Rattle.std.proofs.lemmas.Bool.{cases_Bool, cases_eq, cases_lt, le-ltb, lt-ltb}
 use Rattle.spmd_model.specs.Timelines.{Act, post, await, load, store, add, print, Machine, act_at, acts_of}
-use Rattle.spmd_model.specs.Ordered.{IsOrdered, IsSound}
+use Rattle.spmd_model.specs.Ordered.{IsOrderedMachine, IsSound}
 use Rattle.spmd_model.specs.Lawful.{Moves}
 use Rattle.spmd_model.specs.Shared.{AreLawful}
 use Rattle.spmd_model.proofs.Shared as kept
@@ -12,7 +12,7 @@ use Rattle.spmd_model.specs.Protocols.{is_passed, passed_first, settled}
 use Rattle.spmd_model.proofs.ProtocolLists.{get_drop, goes, gone_to}
 use Rattle.spmd_model.proofs.Lists.{drop_more}
 
-module _ (m : Machine) (shared : ℕ) (sound : IsSound m) (ordered : IsOrdered m) where
+module _ (m : Machine) (shared : ℕ) (sound : IsSound m) (ordered : IsOrderedMachine m) where
   -- places that are the same are lawful together
   same_places : (cells : List ℤ) (at after : ℕ → ℕ) → AreLawful m shared cells at → ((q : ℕ) → after q ≡ at q) → AreLawful m shared cells after
   same_places cells at after law same = subst (AreLawful m shared cells) (sym (fun_ext same)) law
@@ -86,7 +86,7 @@ same_others at workers k q other = ⊎_elim
     (λ le. ⊎_elim (λ lt. not_come at workers (suc k) q (omega (arith, le, other)) lt ∙ sym (not_come at workers k q le lt)) (λ past. outside at workers (suc k) q (omega (arith, le, other)) past ∙ sym (outside at workers k q le past)) (cases_lt q workers))
     (cases_lt q k)
 
-module _ (m : Machine) (shared : ℕ) (sound : IsSound m) (ordered : IsOrdered m) (le : shared ≤ m.cells) (at : ℕ → ℕ) (settles : (p : ℕ) → p < m.workers → at p ≡ settled shared (acts_of m p) 0) where
+module _ (m : Machine) (shared : ℕ) (sound : IsSound m) (ordered : IsOrderedMachine m) (le : shared ≤ m.cells) (at : ℕ → ℕ) (settles : (p : ℕ) → p < m.workers → at p ≡ settled shared (acts_of m p) 0) where
   some_come : (k : ℕ) → k ≤ m.workers → AreLawful m shared (replicate shared (pos 0)) (first_come at m.workers k)
   some_come zero below = kept.first m shared (first_come at m.workers 0) sound le (λ p lt. not_come at m.workers 0 p (omega arith) lt)
   some_come (suc k) below =

@@ -12,7 +12,7 @@ use Rattle.spmd_model.specs.Cells.{plus}
 use Rattle.spmd_model.specs.Timelines.{Act, post, await, load, store, add, print, Machine, Word, counter, signal, act_at, acts_of}
 use Rattle.spmd_model.specs.States.{State, acted, assigned_by, first_state, is_possible, line_by, moved, next_act, registers_of, run_of, stepped, stepped_by, words_of}
 use Rattle.spmd_model.specs.Sequential.{registers_at, registers_behind, stored_at, stored_by}
-use Rattle.spmd_model.specs.Ordered.{IsOrdered, IsSound}
+use Rattle.spmd_model.specs.Ordered.{IsOrderedMachine, IsSound}
 use Rattle.spmd_model.specs.Lawful.{IsLawful, IsPosted, Moves, act_line, counted, counter_at, printed_at}
 use Rattle.spmd_model.specs.Reached.{HasCome, IsSequential, positions_of}
 use Rattle.spmd_model.proofs.Lists.{take-more}
@@ -174,7 +174,7 @@ sequential_moved m s after p a lt come seq next moves lawful count here others o
     by_zero : p ≡ 0 → next_act m s 0 ≡ Some a → slice_index after.positions 0 ≡ slice_index s.positions 0 + 1 → printed_at m 0 (slice_index s.positions 0) ++ act_line m a ≡ printed_at m 0 (slice_index after.positions 0)
     by_zero e first more = sym (ap (printed_at m 0) more ∙ printed_more m 0 (slice_index s.positions 0) a first)
 
-sequential_act : (m : Machine) (s : State) (p : ℕ) (a : Act) → p < m.workers → IsSound m → IsOrdered m → HasCome m s → IsSequential m s → next_act m s p ≡ Some a → is_possible s a ≡ true → IsSequential m (moved (acted m s p a) p)
+sequential_act : (m : Machine) (s : State) (p : ℕ) (a : Act) → p < m.workers → IsSound m → IsOrderedMachine m → HasCome m s → IsSequential m s → next_act m s p ≡ Some a → is_possible s a ≡ true → IsSequential m (moved (acted m s p a) p)
 sequential_act m s p (post counter n) lt sound ordered come seq next possible =
     let after = moved (acted m s p (post counter n)) p in
     sequential_moved m s after p (post counter n) lt come seq next refl (λ moves. law.by_post m s.memory (positions_of s) (positions_of after) counter p n lt seq.lawful next moves) seq.as_many (seq.registers p lt) (λ q ne. refl) (sym (append-nil s.output)) (λ ne. refl)
@@ -218,14 +218,14 @@ sequential_act m s p (print t) lt sound ordered come seq next possible =
     (get_or-set_same s.registers p [] [] (omega (arith, seq.as_many, lt))) (λ q ne. get_or-set_other s.registers p q [] [] ne)
     (ap (λ g. s.output ++ line_by (slice_get m.timeline t) g) (seq.registers p lt ∙ print_whole m p (positions_of s p) t next)) (λ ne. absurd (ne zero_is))
 
-sequential_by : (m : Machine) (s : State) (p : ℕ) (o : Option Act) → p < m.workers → IsSound m → IsOrdered m → HasCome m s → IsSequential m s → next_act m s p ≡ o → IsSequential m (stepped_by m s p o)
+sequential_by : (m : Machine) (s : State) (p : ℕ) (o : Option Act) → p < m.workers → IsSound m → IsOrderedMachine m → HasCome m s → IsSequential m s → next_act m s p ≡ o → IsSequential m (stepped_by m s p o)
 sequential_by m s p None lt sound ordered come seq next = seq
 sequential_by m s p (Some a) lt sound ordered come seq next = elim (cases_Bool (is_possible s a)) [
   | inl possible ↦ subst (λ b. IsSequential m (cond b (moved (acted m s p a) p) s)) (sym possible) (sequential_act m s p a lt sound ordered come seq next possible)
   | inr not_yet ↦ subst (λ b. IsSequential m (cond b (moved (acted m s p a) p) s)) (sym not_yet) seq
 ]
 
-pub sequential_stepped : (m : Machine) (s : State) (p : ℕ) → p < m.workers → IsSound m → IsOrdered m → HasCome m s → IsSequential m s → IsSequential m (stepped m s p)
+pub sequential_stepped : (m : Machine) (s : State) (p : ℕ) → p < m.workers → IsSound m → IsOrderedMachine m → HasCome m s → IsSequential m s → IsSequential m (stepped m s p)
 sequential_stepped m s p lt sound ordered come seq = sequential_by m s p (next_act m s p) lt sound ordered come seq refl
 
 -- ---- schedules
@@ -238,11 +238,11 @@ come_folded m s (p ∷ rest) come all =
 pub come_run : (m : Machine) (schedule : List ℕ) → All (λ p. p < m.workers) schedule → HasCome m (run_of m schedule)
 come_run m schedule all = come_folded m (first_state m) schedule (come_first m) all
 
-sequential_folded : (m : Machine) (s : State) (schedule : List ℕ) → IsSound m → IsOrdered m → HasCome m s → IsSequential m s → All (λ p. p < m.workers) schedule → IsSequential m (fold (stepped m) s schedule)
+sequential_folded : (m : Machine) (s : State) (schedule : List ℕ) → IsSound m → IsOrderedMachine m → HasCome m s → IsSequential m s → All (λ p. p < m.workers) schedule → IsSequential m (fold (stepped m) s schedule)
 sequential_folded m s [] sound ordered come seq all = seq
 sequential_folded m s (p ∷ rest) sound ordered come seq all =
     let lt = All-head (λ p. p < m.workers) p rest all in
     sequential_folded m (stepped m s p) rest sound ordered (come_stepped m s p lt come) (sequential_stepped m s p lt sound ordered come seq) (All-tail (λ p. p < m.workers) p rest all)
 
-pub sequential_run : (m : Machine) (schedule : List ℕ) → IsSound m → IsOrdered m → All (λ p. p < m.workers) schedule → IsSequential m (run_of m schedule)
+pub sequential_run : (m : Machine) (schedule : List ℕ) → IsSound m → IsOrderedMachine m → All (λ p. p < m.workers) schedule → IsSequential m (run_of m schedule)
 sequential_run m schedule sound ordered all = sequential_folded m (first_state m) schedule sound ordered (come_first m) (sequential_first m sound) all

@@ -6,8 +6,8 @@ use Rattle.std.proofs.lemmas.List.{get_or_append_left, length-replicate, length-
 use Rattle.nest_model.specs.Memory.{cell_value}
 use Rattle.spmd_model.specs.Cells.{plus}
 use Rattle.spmd_model.specs.Timelines.{Act, post, await, load, store, add, print, Machine, Word, act_at, acts_of}
-use Rattle.spmd_model.specs.Sequential.{last_memory, memory_at, stored_at}
-use Rattle.spmd_model.specs.Ordered.{IsOrdered, IsSound}
+use Rattle.spmd_model.specs.Sequential.{memory_at_end, memory_at, stored_at}
+use Rattle.spmd_model.specs.Ordered.{IsOrderedMachine, IsSound}
 use Rattle.spmd_model.specs.Lawful.{IsLawful, IsPosted, Moves}
 use Rattle.spmd_model.specs.Quiet.{is_quiet}
 use Rattle.spmd_model.specs.Shared.{AreLawful}
@@ -24,14 +24,14 @@ first m shared at sound le none =
     }
 
 -- where all have ended, they are those of the last memory
-pub ended : (m : Machine) (shared : ℕ) (cells : List ℤ) (at : ℕ → ℕ) → IsSound m → AreLawful m shared cells at → ((p : ℕ) → p < m.workers → at p ≡ length (acts_of m p)) → cells ≡ take shared (last_memory m)
+pub ended : (m : Machine) (shared : ℕ) (cells : List ℤ) (at : ℕ → ℕ) → IsSound m → AreLawful m shared cells at → ((p : ℕ) → p < m.workers → at p ≡ length (acts_of m p)) → cells ≡ take shared (memory_at_end m)
 ended m shared cells at sound l end = sym (take_at cells l.own shared l.count) ∙ ap (take shared) (whole_memory m (cells ++ l.own) at sound l.lawful end)
 
 -- a shared cell whose load stands next holds the sequential value
-pub gives : (m : Machine) (shared : ℕ) (cells : List ℤ) (at : ℕ → ℕ) (p : ℕ) → IsSound m → IsOrdered m → AreLawful m shared cells at → (t c : ℕ) → c < shared → act_at m p (at p) ≡ Some (load t c) → cell_value cells c ≡ cell_value (memory_at m t) c
+pub gives : (m : Machine) (shared : ℕ) (cells : List ℤ) (at : ℕ → ℕ) (p : ℕ) → IsSound m → IsOrderedMachine m → AreLawful m shared cells at → (t c : ℕ) → c < shared → act_at m p (at p) ≡ Some (load t c) → cell_value cells c ≡ cell_value (memory_at m t) c
 gives m shared cells at p sound ordered l t c lt e = sym (get_or_append_left cells l.own (pos 0) c (omega (arith, lt, l.count))) ∙ law.gives m (cells ++ l.own) at p t c sound ordered l.lawful e
 
-module _ (m : Machine) (shared : ℕ) (cells : List ℤ) (at after : ℕ → ℕ) (p : ℕ) (inside : p < m.workers) (sound : IsSound m) (ordered : IsOrdered m) (l : AreLawful m shared cells at) (moves : Moves at after p (at p + 1)) where
+module _ (m : Machine) (shared : ℕ) (cells : List ℤ) (at after : ℕ → ℕ) (p : ℕ) (inside : p < m.workers) (sound : IsSound m) (ordered : IsOrderedMachine m) (l : AreLawful m shared cells at) (moves : Moves at after p (at p + 1)) where
   pub by_load : (t c : ℕ) → act_at m p (at p) ≡ Some (load t c) → AreLawful m shared cells after
   by_load t c e = record { count = l.count; own = l.own; lawful = law.by_load m (cells ++ l.own) at after p t c inside l.lawful e moves }
 

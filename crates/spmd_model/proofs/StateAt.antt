@@ -9,7 +9,7 @@ use Rattle.spmd_model.specs.Cells.{plus}
 use Rattle.spmd_model.specs.Timelines.{Act, post, await, load, store, add, print, Machine, Word, counter, signal, act_at, acts_of}
 use Rattle.spmd_model.specs.States.{State, acted, assigned_by, first_state, is_possible, line_by, moved, next_act, registers_of, stepped, stepped_by, words_of}
 use Rattle.spmd_model.specs.Sequential.{registers_at, registers_behind, stored_at, stored_by}
-use Rattle.spmd_model.specs.Ordered.{IsOrdered, IsSound}
+use Rattle.spmd_model.specs.Ordered.{IsOrderedMachine, IsSound}
 use Rattle.spmd_model.specs.Lawful.{IsLawful, Moves, act_line, counter_at, printed_at}
 use Rattle.spmd_model.specs.Reached.{IsPossibleAt, memory_by, processors, state_at}
 use Rattle.spmd_model.proofs.ActLists.{found}
@@ -91,7 +91,7 @@ module _ (m : Machine) (memory : List ℤ) (at after : ℕ → ℕ) (p : ℕ) (l
       (λ same. subst (λ k. printed_at m k (at k) ≡ printed_at m k (after k)) same (sym (ap (printed_at m p) moves.here ∙ printed_more m p (at p) a e ∙ ap (λ l. printed_at m p (at p) ++ l) silent ∙ append-nil (printed_at m p (at p)))))
       (λ ne. ap (printed_at m 0) (sym (moves.others 0 (λ e. ne (sym e))))) (cases_eq p 0)
 
-  module _ (sound : IsSound m) (ordered : IsOrdered m) (lawful : IsLawful m memory at) where
+  module _ (sound : IsSound m) (ordered : IsOrderedMachine m) (lawful : IsLawful m memory at) where
     does : (a : Act) → act_at m p (at p) ≡ Some a → moved (acted m here p a) p ≡ state_at m (memory_by memory (stored_at m p (at p)) a) after
     does (post counter n) e = same_state positions (stays (registers_at m) (registers_more m p (at p) (post counter n) e)) (changes (counter_at m counter) n (counter_more m counter p (at p) (post counter n) e)) (stays (counter_at m signal) (counter_more m signal p (at p) (post counter n) e)) refl
         (printed (post counter n) e refl)

@@ -6,7 +6,7 @@ use Rattle.std.proofs.lemmas.List.{get_or_append_left, length-replicate, replica
 use Rattle.nest_model.specs.Memory.{cell_value}
 use Rattle.spmd_model.specs.Cells.{plus}
 use Rattle.spmd_model.specs.Timelines.{Act, post, await, load, store, add, print, Machine, act_at, acts_of}
-use Rattle.spmd_model.specs.Ordered.{IsOrdered, IsSound}
+use Rattle.spmd_model.specs.Ordered.{IsOrderedMachine, IsSound}
 use Rattle.spmd_model.specs.Shared.{AreLawful}
 use Rattle.spmd_model.specs.Lawful.{IsLawful, Moves}
 use Rattle.spmd_model.specs.Reached.{IsPossibleAt, memory_by, state_at}
@@ -67,7 +67,7 @@ module _ (m : Machine) (shared : ℕ) where
   pub state_of_lawful : (cells : List ℤ) (at : ℕ → ℕ) → AreLawful m shared cells at → (s : State) × AreIn m shared cells at s
   state_of_lawful cells at l = (state_at m (cells ++ l.own) at, record { own = l.own; count = l.count; lawful = l.lawful; is = refl })
 
-  pub step_of_state : (cells : List ℤ) (at after : ℕ → ℕ) (p : ℕ) (a : Act) (s : State) → IsSound m → IsOrdered m → p < m.workers → AreIn m shared cells at s → act_at m p (at p) ≡ Some a → IsPossibleAt (acts_of m) at a → Moves at after p (at p + 1) →
+  pub step_of_state : (cells : List ℤ) (at after : ℕ → ℕ) (p : ℕ) (a : Act) (s : State) → IsSound m → IsOrderedMachine m → p < m.workers → AreIn m shared cells at s → act_at m p (at p) ≡ Some a → IsPossibleAt (acts_of m) at a → Moves at after p (at p + 1) →
       AreIn m shared (memory_by cells (stored_at m p (at p)) a) after (stepped m s p)
   step_of_state cells at after p a s sound ordered lt shows e possible moves =
       let memory = cells ++ shows.own in

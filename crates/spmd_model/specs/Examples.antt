@@ -3,7 +3,7 @@ use Rattle.std.specs.Prelude.{ℕ, ◌+◌, ◌≡◌, ◌==◌, ℤ, pos, Bool,
 use Rattle.std.specs.Int.{int_wrap}
 use Rattle.spmd_model.specs.Timelines.{post, await, load, store, add, Job, Machine, Moment, boundary, counter, job, acts_of}
 use Rattle.spmd_model.specs.States.{run_of}
-use Rattle.spmd_model.specs.Sequential.{last_memory}
+use Rattle.spmd_model.specs.Sequential.{memory_at_end}
 use Rattle.spmd_model.specs.Lawful.{counter_at, last_value}
 use Rattle.spmd_model.specs.Rounds.{round_boundary}
 
@@ -38,8 +38,8 @@ pub acts_of-second : acts_of waiting 1 ≡ store 2 1 ∷ post counter 1 ∷ []
 acts_of-second = refl
 
 -- the sequential memory, and runs that come to it
-pub last_memory-example : last_memory waiting ≡ pos 8 ∷ pos 8 ∷ []
-last_memory-example = refl
+pub memory_at_end-example : memory_at_end waiting ≡ pos 8 ∷ pos 8 ∷ []
+memory_at_end-example = refl
 
 pub run_of-example : (run_of waiting (1 ∷ 1 ∷ 0 ∷ 0 ∷ 0 ∷ 0 ∷ [])).memory ≡ pos 8 ∷ pos 8 ∷ []
 run_of-example = refl
@@ -82,9 +82,9 @@ sums adds clears = record {
 pub acts_of-sums : acts_of (sums true true) 0 ≡ store 0 1 ∷ load 2 1 ∷ add 2 0 ∷ store 3 1 ∷ []
 acts_of-sums = refl
 
-pub last_memory-sums : last_memory (sums true true) ≡ pos 7 ∷ pos 0 ∷ pos 0 ∷ []
+pub memory_at_end-sums : memory_at_end (sums true true) ≡ pos 7 ∷ pos 0 ∷ pos 0 ∷ []
 unfolding int_wrap
-last_memory-sums = refl
+memory_at_end-sums = refl
 
 -- in whatever order they add
 pub run_of-sums : (run_of (sums true true) (1 ∷ 1 ∷ 0 ∷ 0 ∷ 0 ∷ 1 ∷ 1 ∷ 1 ∷ 1 ∷ 1 ∷ 0 ∷ [])).memory ≡ pos 7 ∷ pos 0 ∷ pos 0 ∷ []
@@ -92,12 +92,12 @@ unfolding int_wrap
 run_of-sums = refl
 
 -- a store in place of the addition loses what the other added, and an own cell that is kept is added again
-pub last_memory-stored : last_memory (sums false true) ≡ pos 0 ∷ pos 0 ∷ pos 0 ∷ []
-last_memory-stored = refl
+pub memory_at_end-stored : memory_at_end (sums false true) ≡ pos 0 ∷ pos 0 ∷ pos 0 ∷ []
+memory_at_end-stored = refl
 
-pub last_memory-kept : last_memory (sums true false) ≡ pos 11 ∷ pos 3 ∷ pos 4 ∷ []
+pub memory_at_end-kept : memory_at_end (sums true false) ≡ pos 11 ∷ pos 3 ∷ pos 4 ∷ []
 unfolding int_wrap
-last_memory-kept = refl
+memory_at_end-kept = refl
 
 -- ---- a barrier by signals, of so many rounds from this number on
 

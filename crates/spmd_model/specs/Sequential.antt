@@ -14,8 +14,8 @@ memory_behind memory (job j) = with_change memory j.store j.adds (j.assigned (ma
 abbrev pub memory_at : Machine → ℕ → List ℤ
 memory_at m place = fold memory_behind (replicate m.cells (pos 0)) (take place m.timeline)
 
-abbrev pub last_memory : Machine → List ℤ
-last_memory m = fold memory_behind (replicate m.cells (pos 0)) m.timeline
+abbrev pub memory_at_end : Machine → List ℤ
+memory_at_end m = fold memory_behind (replicate m.cells (pos 0)) m.timeline
 
 -- what the loads of the job at this place give
 abbrev pub loads_by : Option Moment → List ℕ

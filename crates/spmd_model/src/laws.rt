@@ -8,7 +8,7 @@ ghost use Rattle.nest_model.specs.Instances.{instances};
 ghost use Rattle.nest_model.specs.Memory as Memory;
 ghost use Rattle.nest_model.specs.Memory.{cell_value, memory_before, output_of};
 ghost use Rattle.sync_plan.specs.Fit.{IsFit};
-ghost use Rattle.sync_plan.specs.Ordered.{IsOrdered as IsOrderedPlan};
+ghost use Rattle.sync_plan.specs.Ordered.{IsOrdered};
 ghost use Rattle.sync_plan.specs.Stored.{AreStoredFirst};
 ghost use Rattle.sync_plan.specs.declared.plan.Plan.{Plan};
 ghost use Rattle.owner_partition.specs.Phases.{Execution, phases};
@@ -16,7 +16,7 @@ ghost use Rattle.spmd_model.specs.Deeds.{can_do, deed_of, deeds_from, did};
 ghost use Rattle.spmd_model.specs.Fair.{IsBlock, IsFair, acts_to_go, blocks_in, first_of};
 ghost use Rattle.spmd_model.specs.Free.{IsFree};
 ghost use Rattle.spmd_model.specs.Lawful.{IsLawful, Moves, acts_in_front};
-ghost use Rattle.spmd_model.specs.Ordered.{Hop, IsChain, IsOrdered, IsSound};
+ghost use Rattle.spmd_model.specs.Ordered.{Hop, IsChain, IsOrderedMachine, IsSound};
 ghost use Rattle.std.specs.List.{AllByRecursion};
 ghost use Rattle.spmd_model.specs.OwnPhases.{AreApart, Come, IsGoodLoad, IsSumJob, Own, adds_total, behind_job, clears, keeps_private, own_cell, own_job, put, without};
 ghost use Rattle.spmd_model.specs.Trips.{IsTrip, last_behind};
@@ -31,7 +31,7 @@ ghost use Rattle.spmd_model.specs.declared.style.Style.{Style};
 ghost use Rattle.spmd_model.specs.declared.style.Style.TheVariants.{Arrive};
 ghost use Rattle.nest_model.specs.Ranges.{IsInRange};
 ghost use Rattle.nest_model.specs.Visits.{Visit};
-ghost use Rattle.spmd_model.specs.Sequential.{last_memory, memory_at, stored_at, value_at, whole_output};
+ghost use Rattle.spmd_model.specs.Sequential.{memory_at_end, memory_at, stored_at, value_at, whole_output};
 ghost use Rattle.spmd_model.specs.States.{IsEnded, State, acted, first_state, is_possible, next_act, run_of, stepped};
 ghost use Rattle.spmd_model.specs.Timelines.{Act, Job, Machine, act_at, acts_of, add, job, load, store};
 
@@ -63,7 +63,7 @@ pub fn fair_runs_end()
 /// On an ordered timeline, in whatever order the processors go, every load that stands next finds
 /// in its cell what the sequential program's memory has there in front of its job.
 pub fn every_load_is_sequential()
-    ensures { (m : Machine) (schedule : List ℕ) (p place cell : ℕ) → IsSound m → IsOrdered m
+    ensures { (m : Machine) (schedule : List ℕ) (p place cell : ℕ) → IsSound m → IsOrderedMachine m
         → All (λ p. p < m.workers) schedule → p < m.workers
         → next_act m (run_of m schedule) p ≡ Some (load place cell)
         → cell_value (run_of m schedule).memory cell ≡ cell_value (memory_at m place) cell }
@@ -72,13 +72,13 @@ pub fn every_load_is_sequential()
 /// On an ordered timeline the output of a run is at all times a front of the sequential one, and a
 /// run that has ended has the sequential program's memory and its whole output.
 pub fn runs_are_sequential()
-    ensures front { (m : Machine) (schedule : List ℕ) → IsSound m → IsOrdered m
+    ensures front { (m : Machine) (schedule : List ℕ) → IsSound m → IsOrderedMachine m
         → All (λ p. p < m.workers) schedule → (rest : List ℕ)
         × ((run_of m schedule).output ++ rest ≡ whole_output m) }
-    ensures memory { (m : Machine) (schedule : List ℕ) → IsSound m → IsOrdered m
+    ensures memory { (m : Machine) (schedule : List ℕ) → IsSound m → IsOrderedMachine m
         → All (λ p. p < m.workers) schedule → IsEnded m (run_of m schedule)
-        → (run_of m schedule).memory ≡ last_memory m }
-    ensures output { (m : Machine) (schedule : List ℕ) → 0 < m.workers → IsSound m → IsOrdered m
+        → (run_of m schedule).memory ≡ memory_at_end m }
+    ensures output { (m : Machine) (schedule : List ℕ) → 0 < m.workers → IsSound m → IsOrderedMachine m
         → All (λ p. p < m.workers) schedule → IsEnded m (run_of m schedule)
         → (run_of m schedule).output ≡ whole_output m }
 {}
@@ -167,12 +167,12 @@ pub fn acts_are_steps()
     ensures first { (m : Machine) → first_state m
         ≡ state_at m (replicate m.cells (pos 0)) (λ p. 0) }
     ensures step { (m : Machine) (memory : List ℤ) (at after : ℕ → ℕ) (p : ℕ) (a : Act) → IsSound m
-        → IsOrdered m → p < m.workers → IsLawful m memory at → act_at m p (at p) ≡ Some a
+        → IsOrderedMachine m → p < m.workers → IsLawful m memory at → act_at m p (at p) ≡ Some a
         → IsPossibleAt (acts_of m) at a → Moves at after p (at p + 1)
         → stepped m (state_at m memory at) p ≡ state_at m (memory_by memory (stored_at m p (at p))
         a) after }
     ensures lawful { (m : Machine) (memory : List ℤ) (at after : ℕ → ℕ) (p : ℕ) (a : Act)
-        → IsSound m → IsOrdered m → p < m.workers → IsLawful m memory at
+        → IsSound m → IsOrderedMachine m → p < m.workers → IsLawful m memory at
         → act_at m p (at p) ≡ Some a → IsPossibleAt (acts_of m) at a → Moves at after p (at p + 1)
         → IsLawful m (memory_by memory (stored_at m p (at p)) a) after }
 {}
@@ -201,8 +201,8 @@ pub fn timelines_in_styles()
     ensures sound { (style : Style) → (tree : Tree) → (plan : Plan) → IsWellFormed tree
         → IsFit tree plan → IsSound (machine_by style tree plan) }
     ensures ordered { (style : Style) → (tree : Tree) → (plan : Plan) → IsWellFormed tree
-        → IsFit tree plan → IsInRange tree → IsOrderedPlan tree plan
-        → IsOrdered (machine_by style tree plan) }
+        → IsFit tree plan → IsInRange tree → IsOrdered tree plan
+        → IsOrderedMachine (machine_by style tree plan) }
     ensures deeds { (style : Style) → (tree : Tree) → (plan : Plan) → (p : ℕ)
         → IsWellFormed tree → IsFit tree plan → p < plan.workers
         → map (deed_of (machine_by style tree plan)) (acts_of (machine_by style tree plan) p)
@@ -219,7 +219,7 @@ pub fn timelines_in_styles()
         (part_place (parts_by style tree plan) k) < at q }
     ensures last { (style : Style) → (tree : Tree) → (plan : Plan) → IsWellFormed tree
         → IsFit tree plan → IsInRange tree → AreStoredFirst tree plan → take (cell_count tree)
-        (last_memory (machine_by style tree plan)) ≡ Memory.last_memory tree }
+        (memory_at_end (machine_by style tree plan)) ≡ Memory.last_memory tree }
     ensures output { (style : Style) → (tree : Tree) → (plan : Plan) → IsWellFormed tree
         → IsFit tree plan → IsInRange tree → AreStoredFirst tree plan
         → whole_output (machine_by style tree plan) ≡ output_of tree }

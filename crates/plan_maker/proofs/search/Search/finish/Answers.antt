@@ -9,7 +9,7 @@ use Rattle.comm_system.specs.SlotViews.{slot_seen}
 use Rattle.sync_plan.specs.declared.plan.Kind.{Kind}
 use Rattle.plan_maker.specs.Asked.{AreRefuted, slot_asked}
 use Rattle.plan_maker.specs.Caches.{IsHeld, boundaries_seen}
-use Rattle.plan_maker.specs.Searches.{IsReady, kinds_in, phases_in}
+use Rattle.plan_maker.specs.Searches.{IsCurrent, kinds_in, phases_in}
 use Rattle.plan_maker.proofs.Fresh.{all_have}
 use Rattle.plan_maker.proofs.Ready.{finish_more, taken_now}
 use Rattle.plan_maker.proofs.TakenKinds.{taken_have}
@@ -28,7 +28,7 @@ into_certificates-requires-clause-cache c =
     let into = c.into_iter-slot-iterator.ensures.into_iter_gives in
     let road = YieldsList-from_vec {s = c.into_iter-slot-iterator.result} s.slots.items into.0 (into.1 ∙ s.slots.ok.0) in
     let turn = YieldsList-turn road c.loop-slot.yielded c.loop-slot.slot-iterator c.loop-slot.yielded_by c.next.result c.next.new.self c.in-Some.slot c.in-Some.is c.next.ensures.steps in
-    let ready = subst (IsReady s.problem (kinds_in s)) (sym turn.1) (c.requires.ready (length c.loop-slot.yielded) c.in-Some.slot turn.0) in
+    let ready = subst (IsCurrent s.problem (kinds_in s)) (sym turn.1) (c.requires.ready (length c.loop-slot.yielded) c.in-Some.slot turn.0) in
     ready.cache
 
 pub into_certificates-requires-clause-held : goal.into_certificates-requires-clause-held
@@ -40,7 +40,7 @@ into_certificates-requires-clause-held c =
     let into = c.into_iter-slot-iterator.ensures.into_iter_gives in
     let road = YieldsList-from_vec {s = c.into_iter-slot-iterator.result} s.slots.items into.0 (into.1 ∙ s.slots.ok.0) in
     let turn = YieldsList-turn road c.loop-slot.yielded c.loop-slot.slot-iterator c.loop-slot.yielded_by c.next.result c.next.new.self x c.in-Some.is c.next.ensures.steps in
-    let ready = subst (IsReady s.problem (kinds_in s)) (sym turn.1) (c.requires.ready (length c.loop-slot.yielded) x turn.0) in
+    let ready = subst (IsCurrent s.problem (kinds_in s)) (sym turn.1) (c.requires.ready (length c.loop-slot.yielded) x turn.0) in
     let kinds : c.as_slice-in-loop-slot.result.now ≡ kinds_in s = c.as_slice-in-loop-slot.ensures.value ∙ c.in_ok-kinds.ensures ∙ taken_now s c.as_slice.result.now c.as_slice-2.result.now c.as_slice.ensures.value c.as_slice-2.ensures.value in
     subst (λ (ks : List Kind). IsHeld tree plan (slot_seen x.slot) (signature_of plan.version ks (boundaries_seen x)) x.entries.items) (sym kinds)
     (subst (λ (bs : List Boundary). IsHeld tree plan (slot_seen x.slot) (signature_of plan.version (kinds_in s) bs) x.entries.items) (sym ready.certain) ready.held)
@@ -54,7 +54,7 @@ loop-slot-preserved c =
     let into = c.into_iter-slot-iterator.ensures.into_iter_gives in
     let road = YieldsList-from_vec {s = c.into_iter-slot-iterator.result} s.slots.items into.0 (into.1 ∙ s.slots.ok.0) in
     let turn = YieldsList-turn road c.loop-slot.yielded c.loop-slot.slot-iterator c.loop-slot.yielded_by c.next.result c.next.new.self x c.in-Some.is c.next.ensures.steps in
-    let ready = subst (IsReady s.problem (kinds_in s)) (sym turn.1) (c.requires.ready (length c.loop-slot.yielded) x turn.0) in
+    let ready = subst (IsCurrent s.problem (kinds_in s)) (sym turn.1) (c.requires.ready (length c.loop-slot.yielded) x turn.0) in
     let more = c.in_ok-more.more.items in
     let here = subst (λ (bs : List Boundary). AreRefuted (slot_asked tree plan (slot_seen x.slot) (signature_of plan.version c.as_slice-in-loop-slot.result.now bs)) more) ready.certain c.in_ok-more.ensures in
     let refuted = subst (λ (ks : List Kind). AreRefuted (slot_asked tree plan (slot_seen x.slot) (signature_of plan.version ks (Rattle.comm_system.specs.Certain.certain_of (slot_seen x.slot) (phases_in s.problem)))) more) c.as_slice-in-loop-slot.ensures.value here in

@@ -10,7 +10,7 @@ use Rattle.plan_maker.specs.declared.reasons.PhaseReason.{PhaseReason}
 use Rattle.plan_maker.specs.declared.search.Search.{Search}
 use Rattle.plan_maker.specs.Candidates.{Choice, kinds_taken, weaker_at}
 use Rattle.plan_maker.specs.PhaseCauses.{IsPhaseCause}
-use Rattle.plan_maker.specs.Searches.{IsReady, IsTrial, IsTrialReason, kinds_with, slots_in}
+use Rattle.plan_maker.specs.Searches.{IsCurrent, IsTrial, IsTrialReason, kinds_with, slots_in}
 use Rattle.plan_maker.proofs.Choices.{weaker_next}
 use Rattle.plan_maker.proofs.Ready.{reason_same, same_twice, taken_search}
 use Rattle.plan_maker.proofs.search.Search.settle.Goals as goal
@@ -29,8 +29,8 @@ returns-in-None-clause-search c =
     let items : old.taken.items ≡ first.taken.items = has.taken ∙ c.loop-place.invariant.taken in
     let at : slice_get old.taken.items t ≡ Some j = ap (λ ts. slice_get ts t) items ∙ slice_get_read first.taken.items (length first.taken.items) t j refl c.requires.phase c.index-place-end.ensures in
     let kinds : kinds_with old choice ≡ kinds_with was choice = ap₂ (λ (cs : Vec (List Kind)) ts. kinds_taken cs.items (slice_set ts t i)) has.same.candidates has.taken in
-    let trial : All (IsReady old.problem (kinds_with was choice)) old.slots.items = subst (IsTrial old (t + 1) (kinds_with was choice)) c.in-None.is has.trial in
-    taken_search old new t i j refl refl refl refl at c.loop-place-test.true has.search (subst (λ ks. All (IsReady old.problem ks) old.slots.items) (sym kinds) trial)
+    let trial : All (IsCurrent old.problem (kinds_with was choice)) old.slots.items = subst (IsTrial old (t + 1) (kinds_with was choice)) c.in-None.is has.trial in
+    taken_search old new t i j refl refl refl refl at c.loop-place-test.true has.search (subst (λ ks. All (IsCurrent old.problem ks) old.slots.items) (sym kinds) trial)
 
 pub loop-place-preserved : goal.loop-place-preserved
 loop-place-preserved c =

@@ -2,7 +2,7 @@ use Rattle.std.proofs.Common.{◌<◌, ◌≤◌, length, refl, ap, sym, subst, 
 use Rattle.nest_tree.specs.View.{tree_of}
 use Rattle.plan_maker.specs.declared.search.Search.{Search}
 use Rattle.plan_maker.specs.Caches.{IsCache}
-use Rattle.plan_maker.specs.Searches.{IsReady, IsTried, kinds_in}
+use Rattle.plan_maker.specs.Searches.{IsCurrent, IsTried, kinds_in}
 use Rattle.plan_maker.proofs.Ready.{same_refl, same_twice, slots_long, step_kept, step_passed, step_same, step_search, trial_elsewhere}
 use Rattle.plan_maker.proofs.search.Search.try_kinds.Goals as goal
 
@@ -28,7 +28,7 @@ returns-in-Some c =
     let lt : k < length old.slots.items = omega (arith, c.loop-place-test.true, c.len-place-end.ensures, c.args.self.now.slots.ok.0, slots_long c.args.self.now old its.same) in
     let is = c.index_mut-slot.ensures.value in
     let has = c.in_ok-cause.ensures in
-    let was : IsReady old.problem (kinds_in old) e = subst (IsReady old.problem (kinds_in old)) (sym is) (its.search.ready k e lt) in
+    let was : IsCurrent old.problem (kinds_in old) e = subst (IsCurrent old.problem (kinds_in old)) (sym is) (its.search.ready k e lt) in
     let tried = subst (IsTried old.problem c.args.trial.phase c.args.trial.kinds.now x) c.in-Some.is (has.tried (kinds_in old) (trial_elsewhere c.args.self.now old c.args.trial.phase c.args.trial.kinds.now its.same its.taken c.requires.elsewhere) was) in
     record {
       search = step_search old new k e x refl refl refl refl lt is has.grown has.cache its.search;
@@ -48,7 +48,7 @@ loop-place-preserved c =
     let lt : k < length old.slots.items = omega (arith, c.loop-place-test.true, c.len-place-end.ensures, c.args.self.now.slots.ok.0, slots_long c.args.self.now old its.same) in
     let is = c.index_mut-slot.ensures.value in
     let has = c.in_ok-cause.ensures in
-    let was : IsReady old.problem (kinds_in old) e = subst (IsReady old.problem (kinds_in old)) (sym is) (its.search.ready k e lt) in
+    let was : IsCurrent old.problem (kinds_in old) e = subst (IsCurrent old.problem (kinds_in old)) (sym is) (its.search.ready k e lt) in
     let tried = subst (IsTried old.problem c.args.trial.phase c.args.trial.kinds.now x) c.in_default.is (has.tried (kinds_in old) (trial_elsewhere c.args.self.now old c.args.trial.phase c.args.trial.kinds.now its.same its.taken c.requires.elsewhere) was) in
     record {
       search = step_search old new k e x refl refl refl refl lt is has.grown has.cache its.search;
