@@ -209,7 +209,8 @@ pub fn join_all(
         table.new.chains.links.items table.new.chains.latest.items) }
     ensures joined { IfOk result (λ whole. (apart : List HeldRow)
         → IsGathered variable apart [] lowers.now table.old.rows.items →
-        MatchBool whole (IsGathered variable apart uppers.now lowers.now table.new.rows.items) (HasApart 20000 (IsSource variable apart uppers.now lowers.now))) }
+        MatchBool whole (IsGathered variable apart uppers.now lowers.now table.new.rows.items)
+        (HasApart 20000 (IsSource variable apart uppers.now lowers.now))) }
 {
     let mut coefs = Vec::with_capacity(alloc, width_of(uppers))?;
     for upper in uppers {

@@ -44,7 +44,8 @@ pub fn multipliers(upper: i128, lower: i128) -> (i128, i128)
 pub fn is_narrow_combination(m: i128, upper: &Row, n: i128, lower: &Row) -> bool
     requires { length lower.now.coefs ≡ length upper.now.coefs }
     ensures { let vars = length upper.now.coefs in
-        MatchBool result (IsNarrow vars m upper.now n lower.now) (IsWide vars m upper.now n lower.now) }
+        MatchBool result (IsNarrow vars m upper.now n lower.now)
+        (IsWide vars m upper.now n lower.now) }
 {
     if weighted_sum(m, upper.bound, n, lower.bound).is_none() {
         return false;

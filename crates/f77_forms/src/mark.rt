@@ -371,7 +371,8 @@ fn goes_on(text: &[u8], word: &[u8]) -> bool
 }
 
 fn is_other_print(text: &[u8]) -> bool
-    ensures { result ≡ (marks.goes_on (codes "PRINT") text.now && not (begins_with (codes "PRINT*,") text.now)) }
+    ensures { result ≡ (marks.goes_on (codes "PRINT") text.now
+        && not (begins_with (codes "PRINT*,") text.now)) }
 {
     goes_on(text, b"PRINT") && !text.starts_with(b"PRINT*,")
 }
@@ -389,7 +390,8 @@ fn names_other(text: &[u8]) -> bool
 }
 
 fn is_unlabelled_do(text: &[u8]) -> bool
-    ensures { result ≡ (begins_with (codes "DO") text.now && marks.looks_unlabelled (drop 2 text.now)) }
+    ensures { result ≡ (begins_with (codes "DO") text.now
+        && marks.looks_unlabelled (drop 2 text.now)) }
 {
     match text.strip_prefix(b"DO") {
         Some(behind) => looks_unlabelled(behind),

@@ -58,7 +58,8 @@ fn entries(alloc: Global, bytes: &[u8]) -> Result<Vec<Line>, AllocError>
 
 /// The END statement.
 fn ending(alloc: Global, number: u32, columns: &[u8]) -> Result<Line, AllocError>
-    ensures { IfOk result (λ line. entry_of line ≡ spec.statement number (spec.label_of columns.now) (codes "END")) }
+    ensures { IfOk result (λ line. entry_of line
+        ≡ spec.statement number (spec.label_of columns.now) (codes "END")) }
 {
     Ok(Line::Statement {
         line: number,

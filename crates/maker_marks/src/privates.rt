@@ -102,7 +102,8 @@ fn push_loop_privates(
     nest: &Nest,
 ) -> Result<(), AllocError>
     ensures { OnOk result (lists.new.items ≡ lists.old.items
-        ++ loop_privates (tried_at dealt.entry.tries.now) (own_at dealt.entry.privates.now) nest.now.number (nest_body nest.now)) }
+        ++ loop_privates (tried_at dealt.entry.tries.now) (own_at dealt.entry.privates.now)
+        nest.now.number (nest_body nest.now)) }
 {
     if tried_at(dealt.tries, nest.number).is_some() {
         lists.push(dealt.privates_at(alloc, nest.number)?)?;

@@ -78,7 +78,8 @@ pub fn runs_are_sequential()
     ensures memory { (m : Machine) (schedule : List ℕ) → IsSound m → IsOrderedMachine m
         → All (λ p. p < m.workers) schedule → IsEnded m (run_of m schedule)
         → (run_of m schedule).memory ≡ memory_at_end m }
-    ensures output { (m : Machine) (schedule : List ℕ) → 0 < m.workers → IsSound m → IsOrderedMachine m
+    ensures output { (m : Machine) (schedule : List ℕ) → 0 < m.workers → IsSound m
+        → IsOrderedMachine m
         → All (λ p. p < m.workers) schedule → IsEnded m (run_of m schedule)
         → (run_of m schedule).output ≡ whole_output m }
 {}
