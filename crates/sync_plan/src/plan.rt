@@ -114,15 +114,15 @@ impl Kind {
     pub fn plain(word: &[u8]) -> Kind
         ensures { result ≡ plain_kind word.now }
     {
-        if word == b"NOTHING" {
+        if word == b"NOTHING".as_slice() {
             Kind::Nothing
-        } else if word == b"LEFT" {
+        } else if word == b"LEFT".as_slice() {
             Kind::Left
-        } else if word == b"RIGHT" {
+        } else if word == b"RIGHT".as_slice() {
             Kind::Right
-        } else if word == b"BOTH" {
+        } else if word == b"BOTH".as_slice() {
             Kind::Both
-        } else if word == b"BARRIER" {
+        } else if word == b"BARRIER".as_slice() {
             Kind::Barrier
         } else {
             Kind::Join
