@@ -18,9 +18,11 @@ use Rattle.plan_checker.specs.Accepted.{IsAccepted}
 use Rattle.plan_checker.proofs.AcceptedOrder.{accepted_ordered}
 use Rattle.spmd_model.specs.Ordered.{IsOrderedMachine, IsSound}
 use Rattle.spmd_model.specs.Reached.{CanGo, IsSequential, positions_of}
-use Rattle.spmd_model.specs.States.{IsEnded, State, next_act, run_of}
+use Rattle.spmd_model.specs.States.{State, next_act}
+use Rattle.spmd_model.specs.Runs.{IsEnded, run_of}
 use Rattle.spmd_model.specs.Machines.{instances_in_front, job_under, machine_by, timeline_by}
-use Rattle.spmd_model.specs.Timelines.{Job, job, load}
+use Rattle.spmd_model.specs.Timelines.{Job, job}
+use Rattle.spmd_model.specs.Acts.{load}
 use Rattle.spmd_model.specs.declared.style.Style.{Style}
 use Rattle.spmd_model.proofs.ActLaws.{gives}
 use Rattle.spmd_model.proofs.Ends.{ended_memory, ended_output, output_front}

@@ -14,9 +14,11 @@ ghost use Rattle.sync_plan.specs.declared.plan.Plan.{Plan};
 ghost use Rattle.plan_checker.specs.Accepted.{IsAccepted};
 ghost use Rattle.spmd_model.specs.Fair.{IsBlock, IsFair, acts_to_go, blocks_in, first_of};
 ghost use Rattle.spmd_model.specs.Reached.{CanGo};
-ghost use Rattle.spmd_model.specs.States.{IsEnded, first_state, next_act, run_of};
+ghost use Rattle.spmd_model.specs.States.{first_state, next_act};
+ghost use Rattle.spmd_model.specs.Runs.{IsEnded, run_of};
 ghost use Rattle.spmd_model.specs.Machines.{instances_in_front, job_under, machine_by, timeline_by};
-ghost use Rattle.spmd_model.specs.Timelines.{Job, job, load};
+ghost use Rattle.spmd_model.specs.Timelines.{Job, job};
+ghost use Rattle.spmd_model.specs.Acts.{load};
 ghost use Rattle.spmd_model.specs.declared.style.Style.{Style};
 
 /// Under an accepted plan of a well-formed program whose subscripts are in range, in whatever order

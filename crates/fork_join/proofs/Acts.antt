@@ -5,7 +5,8 @@ use Rattle.nest_tree.specs.Tree.{Tree}
 use Rattle.sync_plan.specs.declared.plan.Plan.{Plan}
 use Rattle.spmd_model.specs.Deeds.{Deed, deed_of, posting, awaiting, loading, storing, adding, printing}
 use Rattle.spmd_model.specs.Machines.{machine_by}
-use Rattle.spmd_model.specs.Timelines.{Act, Word, Machine, post, await, load, store, add, print}
+use Rattle.spmd_model.specs.Timelines.{Word, Machine}
+use Rattle.spmd_model.specs.Acts.{Act, post, await, load, store, add, print}
 use Rattle.spmd_model.specs.Protocols.{act_at}
 use Rattle.spmd_model.specs.declared.style.Style.TheVariants.{Arrive}
 use Rattle.spmd_model.proofs.Deeds.{await_is}

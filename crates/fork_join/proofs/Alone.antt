@@ -3,7 +3,7 @@ use Rattle.std.proofs.Common.{◌≡◌, ℕ, ◌+◌, ◌<◌, ℤ, true, List,
 use Rattle.nest_model.specs.Memory.{cell_value}
 use Rattle.spmd_model.specs.Lawful.{Moves}
 use Rattle.spmd_model.specs.Quiet.{is_quiet}
-use Rattle.spmd_model.specs.Timelines.{Act, load, print, store}
+use Rattle.spmd_model.specs.Acts.{Act, load, print, store}
 use Rattle.spmd_model.specs.Laws.{Laws}
 use Rattle.spmd_model.specs.Protocols.{Protocol, act_at}
 use Rattle.fork_join.specs.Joins.{Goes, put}

@@ -8,7 +8,8 @@ use Rattle.owner_partition.specs.Phases.{phases}
 use Rattle.sync_plan.specs.Waits.{posts_at, waits_for}
 use Rattle.sync_plan.specs.declared.plan.Plan.{Plan}
 use Rattle.spmd_model.specs.Deeds.{Deed, awaiting, posting}
-use Rattle.spmd_model.specs.Timelines.{await, counter, post}
+use Rattle.spmd_model.specs.Timelines.{counter}
+use Rattle.spmd_model.specs.Acts.{await, post}
 use Rattle.turns.specs.CounterTurns.{CounterTurn, awaits, begins, boundary_turns, posts, counter_deeds, works}
 use Rattle.turns.specs.CountersLeft.{counters_left}
 use Rattle.instance_runs.specs.declared.progress.Progress.{Progress}

@@ -10,7 +10,7 @@ use Rattle.spmd_model.specs.Closings.{given_first}
 use Rattle.spmd_model.specs.Deeds.{Deed, adding, loading, storing}
 use Rattle.spmd_model.specs.Lawful.{Moves}
 use Rattle.spmd_model.specs.MachineDeeds.{keeping_deeds, totalling_deeds}
-use Rattle.spmd_model.specs.Timelines.{add, load, store}
+use Rattle.spmd_model.specs.Acts.{add, load, store}
 use Rattle.spmd_model.specs.declared.style.Style.TheVariants.{Arrive}
 use Rattle.spmd_model.specs.Protocols.{act_at}
 use Rattle.spmd_model.specs.PlanProtocols.{printed_by, registers_by}

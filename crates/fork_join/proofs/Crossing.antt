@@ -16,7 +16,8 @@ use Rattle.spmd_model.specs.Deeds.{Deed, awaiting, boundary_deeds, owned_by, pos
 use Rattle.spmd_model.specs.MachineDeeds.{closing_deeds, deeds_by, own_deeds, part_deeds}
 use Rattle.spmd_model.specs.declared.style.Style.TheVariants.{Arrive}
 use Rattle.spmd_model.specs.Lawful.{IsPosted, Moves}
-use Rattle.spmd_model.specs.Timelines.{await, counter, post}
+use Rattle.spmd_model.specs.Timelines.{counter}
+use Rattle.spmd_model.specs.Acts.{await, post}
 use Rattle.spmd_model.proofs.PlannedOrder.{awaited_posts}
 use Rattle.spmd_model.specs.Protocols.{Protocol, act_at}
 use Rattle.fork_join.specs.Joins.{IsSafe, all_deeds, begun, begun_from, deeds_begun, deeds_behind, in_front, mixed, protocol, put}

@@ -6,7 +6,7 @@ use Rattle.nest_tree.specs.Layout.{cell_count}
 use Rattle.nest_tree.specs.Tree.{Tree}
 use Rattle.nest_model.specs.Memory.{cell_value}
 use Rattle.sync_plan.specs.declared.plan.Plan.{Plan}
-use Rattle.spmd_model.specs.Timelines.{Act, post, await, load, store, add, print}
+use Rattle.spmd_model.specs.Acts.{Act, post, await, load, store, add, print}
 use Rattle.spmd_model.specs.Protocols.{Protocol, act_at, held_at, held_by}
 use Rattle.fork_join.specs.Joins.{HoldsOwn, own_place, protocol}
 

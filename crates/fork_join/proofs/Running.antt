@@ -20,7 +20,7 @@ use Rattle.spmd_model.specs.PlanProtocols.{acts_by, printed_by}
 use Rattle.spmd_model.specs.Deeds.{Deed, adding, deed_of, printing, storing}
 use Rattle.spmd_model.specs.Machines.{machine_by}
 use Rattle.spmd_model.specs.MachineDeeds.{deeds_by}
-use Rattle.spmd_model.specs.Timelines.{Act, acts_of, load}
+use Rattle.spmd_model.specs.Acts.{Act, acts_of, load}
 use Rattle.spmd_model.specs.declared.style.Style.TheVariants.{Arrive}
 use Rattle.spmd_model.proofs.MachineDeeds.{acts_do}
 use Rattle.fork_join.specs.Joins.{Goes, IsSafe, all_deeds, begun, deeds_behind, in_front, joined, protocol, put}

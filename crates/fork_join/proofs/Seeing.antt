@@ -9,7 +9,7 @@ use Rattle.nest_tree.specs.Tree.{Tree}
 use Rattle.nest_model.specs.Memory.{cell_value}
 use Rattle.sync_plan.specs.declared.plan.Plan.{Plan}
 use Rattle.spmd_model.specs.Deeds.{Deed, loading, printing, storing}
-use Rattle.spmd_model.specs.Timelines.{load, print, store}
+use Rattle.spmd_model.specs.Acts.{load, print, store}
 use Rattle.spmd_model.specs.declared.style.Style.TheVariants.{Arrive}
 use Rattle.spmd_model.specs.Protocols.{act_at}
 use Rattle.spmd_model.specs.PlanProtocols.{printed_by, registers_by}

@@ -11,7 +11,8 @@ use Rattle.owner_partition.specs.Phases.{phases}
 use Rattle.sync_plan.specs.declared.plan.Plan.{Plan}
 use Rattle.sync_plan.specs.Waits.{posts_at, waits_for}
 use Rattle.spmd_model.specs.Deeds.{Deed, awaiting, owned_by, posting}
-use Rattle.spmd_model.specs.Timelines.{await, counter, post}
+use Rattle.spmd_model.specs.Timelines.{counter}
+use Rattle.spmd_model.specs.Acts.{await, post}
 use Rattle.spmd_model.specs.declared.style.Style.TheVariants.{Arrive}
 use Rattle.spmd_model.specs.PlanProtocols.{printed_by, registers_by}
 use Rattle.turns.specs.CounterTurns.{counter_room, CounterTurn, awaits, begins, boundary_turns, is_counter_inside, posts, counter_deeds, counter_turns, works}

@@ -16,7 +16,7 @@ use Rattle.spmd_model.specs.Deeds.{Deed, adding, deed_of, owned_by, printing, st
 use Rattle.spmd_model.specs.Lawful.{Moves}
 use Rattle.spmd_model.specs.Machines.{machine_by}
 use Rattle.spmd_model.specs.MachineDeeds.{closing_deeds, deeds_by, own_deeds}
-use Rattle.spmd_model.specs.Timelines.{Act, load}
+use Rattle.spmd_model.specs.Acts.{Act, load}
 use Rattle.spmd_model.specs.declared.style.Style.TheVariants.{Arrive}
 use Rattle.spmd_model.specs.Laws.{Laws}
 use Rattle.spmd_model.specs.Protocols.{Protocol, act_at, held_at}

@@ -11,7 +11,8 @@ use Rattle.sync_plan.specs.Ordered.{IsOrdered, owner_under}
 use Rattle.sync_plan.proofs.OwnLoops.{nothing_in}
 use Rattle.sync_plan.specs.declared.plan.Kind.{Kind}
 use Rattle.sync_plan.specs.declared.plan.Kind.TheVariants.{Join}
-use Rattle.spmd_model.specs.Timelines.{counter, post, await}
+use Rattle.spmd_model.specs.Timelines.{counter}
+use Rattle.spmd_model.specs.Acts.{post, await}
 use Rattle.spmd_model.specs.Protocols.{Protocol, act_at}
 use Rattle.spmd_model.specs.PlanProtocols.{acts_by, protocol_by}
 use Rattle.spmd_model.specs.declared.style.Style.TheVariants.{Arrive}

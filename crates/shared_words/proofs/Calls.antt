@@ -9,7 +9,8 @@ use Rattle.nest_tree.specs.declared.tree.Program.{Program}
 use Rattle.sync_plan.specs.declared.plan.Plan.{Plan}
 use Rattle.spmd_model.specs.Cells.{plus}
 use Rattle.spmd_model.specs.declared.style.Style.{Style}
-use Rattle.spmd_model.specs.Timelines.{Act, Word, await, load, store, add}
+use Rattle.spmd_model.specs.Timelines.{Word}
+use Rattle.spmd_model.specs.Acts.{Act, await, load, store, add}
 use Rattle.spmd_model.specs.Protocols.{Protocol, act_at, arrived, arrivals_at}
 use Rattle.spmd_model.specs.Laws.{Laws}
 use Rattle.shared_words.specs.declared.roles.Role.{Role}

@@ -10,7 +10,8 @@ use Rattle.atomic_table.specs.Table.{Me, step, keeps, Allows}
 use Rattle.atomic_table.proofs.Lists.{at_set}
 use Rattle.spmd_model.specs.Cells.{plus}
 use Rattle.spmd_model.specs.Free.{IsInVain}
-use Rattle.spmd_model.specs.Timelines.{Word, counter, post, await, load, store, add}
+use Rattle.spmd_model.specs.Timelines.{Word, counter}
+use Rattle.spmd_model.specs.Acts.{post, await, load, store, add}
 use Rattle.spmd_model.specs.Protocols.{Protocol, act_at, arrivals_at, is_arrival}
 use Rattle.spmd_model.specs.Laws.{Laws}
 use Rattle.shared_words.specs.declared.view.Given.{Given}
@@ -20,7 +21,7 @@ use Rattle.shared_words.specs.declared.view.View.{View}
 use Rattle.shared_words.specs.declared.view.View.TheVariants.{Seated, Away}
 use Rattle.shared_words.specs.Places.{behind, behind_row}
 use Rattle.shared_words.specs.Words.{word_value, word_of, arrival_word}
-use Rattle.shared_words.specs.Seats.{AreOne}
+use Rattle.shared_words.specs.Shown.{AreOne}
 use Rattle.shared_words.specs.Steps.{ComesTo, GoesOn}
 use Rattle.shared_words.specs.Vain.{AreReached}
 use Rattle.shared_words.specs.Homes.{Subject, known_in, protocol_given, protocol_in, processor_of, position_of, role_in}

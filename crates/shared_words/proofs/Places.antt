@@ -6,7 +6,8 @@ use Rattle.std.proofs.lemmas.Bool.{eq-eqb, ne_eqb}
 use Rattle.std.proofs.lemmas.List.{take_more}
 use Rattle.std.proofs.lemmas.List.Sums.{fold-append}
 use Rattle.std.proofs.lemmas.Option.{slice_get_within, get_or_from_slice_get}
-use Rattle.spmd_model.specs.Timelines.{Act, Word, post, await, load, store, add, print}
+use Rattle.spmd_model.specs.Timelines.{Word}
+use Rattle.spmd_model.specs.Acts.{Act, post, await, load, store, add, print}
 use Rattle.spmd_model.specs.Lawful.{Moves}
 use Rattle.spmd_model.specs.Protocols.{Protocol, act_at, shown, shown_at, arrived, arrivals_at, is_gathered, is_passed, passed_first}
 use Rattle.shared_words.specs.Places.{behind, row_first, behind_row, settled_at}

@@ -8,8 +8,10 @@ use Rattle.std.proofs.lemmas.List.Elements.{All-append, All-cons, All-nil}
 use Rattle.std.proofs.lemmas.List.Sums.{fold-append}
 use Rattle.std.proofs.lemmas.Option.{slice_get-get_or}
 use Rattle.spmd_model.specs.Cells.{changed}
-use Rattle.spmd_model.specs.Timelines.{Act, post, await, load, store, add, print, Job, Machine, Moment, Word, counter, signal, boundary, job, act_at, acts_of}
-use Rattle.spmd_model.specs.States.{first_state, run_of, stepped}
+use Rattle.spmd_model.specs.Timelines.{Job, Machine, Moment, Word, counter, signal, boundary, job}
+use Rattle.spmd_model.specs.Acts.{Act, post, await, load, store, add, print, act_at, acts_of}
+use Rattle.spmd_model.specs.States.{first_state}
+use Rattle.spmd_model.specs.Runs.{run_of, stepped}
 use Rattle.spmd_model.specs.Sequential.{registers_at, stored_at, value_at}
 use Rattle.spmd_model.specs.Ordered.{IsOrderedMachine, IsSound}
 use Rattle.spmd_model.specs.Lawful.{IsLawful, acts_in_front, counter_at, is_done, last_value_from, last_value_where, printed_at, stores_to}

@@ -7,7 +7,8 @@ use Rattle.sync_plan.specs.declared.plan.Plan.{Plan}
 use Rattle.spmd_model.specs.Free.{IsFree, IsInVain}
 use Rattle.spmd_model.specs.Ordered.{IsSound}
 use Rattle.spmd_model.specs.Machines.{machine_by}
-use Rattle.spmd_model.specs.Timelines.{Machine, await, acts_of}
+use Rattle.spmd_model.specs.Timelines.{Machine}
+use Rattle.spmd_model.specs.Acts.{await, acts_of}
 use Rattle.spmd_model.specs.declared.style.Style.{Style}
 use Rattle.spmd_model.specs.PlanProtocols.{acts_by}
 use Rattle.shared_words.specs.Places.{total}

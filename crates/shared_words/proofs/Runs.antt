@@ -10,8 +10,10 @@ use Rattle.spmd_model.specs.Lawful.{Moves}
 use Rattle.spmd_model.specs.Machines.{machine_by}
 use Rattle.spmd_model.specs.declared.style.Style.{Style}
 use Rattle.spmd_model.specs.Reached.{IsPossibleAt, memory_by}
-use Rattle.spmd_model.specs.States.{State, stepped}
-use Rattle.spmd_model.specs.Timelines.{Act, Word, counter, post, await, load, store, add, print}
+use Rattle.spmd_model.specs.States.{State}
+use Rattle.spmd_model.specs.Runs.{stepped}
+use Rattle.spmd_model.specs.Timelines.{Word, counter}
+use Rattle.spmd_model.specs.Acts.{Act, post, await, load, store, add, print}
 use Rattle.spmd_model.specs.Laws.{Laws}
 use Rattle.spmd_model.specs.Protocols.{Protocol, act_at, arrivals_at, is_arrival, is_passed}
 use Rattle.spmd_model.specs.PlanProtocols.{AreOfStateBy, protocol_by}

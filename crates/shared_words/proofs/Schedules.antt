@@ -7,14 +7,15 @@ use Rattle.nest_tree.specs.Tree.{Tree}
 use Rattle.sync_plan.specs.declared.plan.Plan.{Plan}
 use Rattle.sync_plan.proofs.Fits.{fit_parts}
 use Rattle.spmd_model.specs.Lawful.{Moves}
-use Rattle.spmd_model.specs.States.{IsEnded, State, first_state, run_of, stepped}
+use Rattle.spmd_model.specs.States.{State, first_state}
+use Rattle.spmd_model.specs.Runs.{IsEnded, run_of, stepped}
 use Rattle.spmd_model.specs.Machines.{machine_by}
 use Rattle.spmd_model.specs.Timelines.{Machine}
 use Rattle.spmd_model.specs.declared.style.Style.{Style}
 use Rattle.spmd_model.proofs.MachineOrder.{ordered_by, sound_by}
 use Rattle.spmd_model.specs.PlanProtocols.{AreLawfulBy, acts_by, protocol_by}
 use Rattle.shared_words.specs.Runs.{AreStepsOf, AreWordsOf, IsRunnable, behind_steps}
-use Rattle.shared_words.specs.Seats.{AreOne}
+use Rattle.shared_words.specs.Shown.{AreOne}
 use Rattle.shared_words.specs.Words.{cells_in}
 use Rattle.shared_words.specs.declared.roles.Role.{Role}
 use Rattle.shared_words.specs.Schedules.{HasSchedule, gone_on}

@@ -19,7 +19,8 @@ use Rattle.shared_words.specs.declared.view.View.TheVariants.{Seated, Away}
 use Rattle.shared_words.specs.Places.{settled_at}
 use Rattle.shared_words.specs.Words.{cells_in, word_count, word_value}
 use Rattle.shared_words.specs.Ends.{IsLast}
-use Rattle.shared_words.specs.Seats.{AreOne, Says}
+use Rattle.shared_words.specs.Seats.{Says}
+use Rattle.shared_words.specs.Shown.{AreOne}
 use Rattle.shared_words.specs.Vain.{AreReached}
 use Rattle.shared_words.specs.Homes.{Subject, given_in, known_in, protocol_in, processor_of, role_in}
 use Rattle.shared_words.specs.Rule.{Shown, IsAtHome, AreAtHome, subject_of, table_protocol, roles_in, with_role, staged, taken_out, first_of, taken_in, first_view, noted, told, learnt}

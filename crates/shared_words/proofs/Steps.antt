@@ -3,13 +3,14 @@ use Rattle.std.proofs.Common.{◌≡◌, ℕ, ◌+◌, ◌*◌, ◌^◌, ◌<◌
 use Rattle.std.specs.Prelude.{slice_index}
 use Rattle.std.proofs.lemmas.Bool.{cases_eq}
 use Rattle.spmd_model.specs.Cells.{plus}
-use Rattle.spmd_model.specs.Timelines.{Act, Word, counter, post, await, load, store, add}
+use Rattle.spmd_model.specs.Timelines.{Word, counter}
+use Rattle.spmd_model.specs.Acts.{Act, post, await, load, store, add}
 use Rattle.spmd_model.specs.Protocols.{Protocol, act_at, arrivals_at, is_arrival}
 use Rattle.spmd_model.specs.Laws.{Laws}
 use Rattle.shared_words.specs.declared.roles.Role.{Role}
 use Rattle.shared_words.specs.Places.{behind, behind_row, total}
 use Rattle.shared_words.specs.Words.{AreShown, word_value, word_of, arrival_word}
-use Rattle.shared_words.specs.Seats.{AreOne}
+use Rattle.shared_words.specs.Shown.{AreOne}
 use Rattle.shared_words.specs.Steps.{ComesTo, GoesOn, IsSeatAt}
 use Rattle.shared_words.proofs.Totals.{total_most}
 use Rattle.shared_words.proofs.WordSteps.{load_gives, by_load, by_store, by_add, by_post, by_poll, by_arrive, by_row}

@@ -16,7 +16,8 @@ use Rattle.shared_words.specs.declared.roles.Stage.{Stage}
 use Rattle.shared_words.specs.declared.roles.Stage.TheVariants.{NotOut, Out, Ended}
 use Rattle.shared_words.specs.Places.{passed_at, settled_at}
 use Rattle.shared_words.specs.Words.{word_count, word_value, word_of, arrival_word, cells_in}
-use Rattle.shared_words.specs.Seats.{Says, Rests, AreOne}
+use Rattle.shared_words.specs.Seats.{Says, Rests}
+use Rattle.shared_words.specs.Shown.{AreOne}
 use Rattle.shared_words.proofs.Totals.{total_zero}
 use Rattle.shared_words.proofs.WordSteps.{in_line, none_between, passed_between}
 use Rattle.shared_words.proofs.Places.{put, put_moves, shown_settled, arrivals_settled}

@@ -4,7 +4,8 @@ use Rattle.std.specs.Prelude.{ℤ, slice_index}
 use Rattle.std.proofs.Math.Seq.{take-set-lt}
 use Rattle.std.proofs.lemmas.Bool.{cases_eq, cases_lt}
 use Rattle.std.proofs.lemmas.List.{get_or-take, take-set-le}
-use Rattle.spmd_model.specs.Timelines.{Act, Word, counter, signal, post, await, load, store, add, print}
+use Rattle.spmd_model.specs.Timelines.{Word, counter, signal}
+use Rattle.spmd_model.specs.Acts.{Act, post, await, load, store, add, print}
 use Rattle.nest_model.specs.Memory.{cell_value}
 use Rattle.spmd_model.specs.Cells.{plus}
 use Rattle.spmd_model.specs.Lawful.{IsPosted, Moves}

@@ -5,7 +5,8 @@ use Rattle.nest_model.specs.Instances.{Instance, instances}
 use Rattle.nest_model.specs.Memory.{cell_value, memory_before}
 use Rattle.spmd_model.specs.Machines.{instances_in_front}
 use Rattle.spmd_model.specs.Free.{IsInVain}
-use Rattle.spmd_model.specs.Timelines.{counter, signal, post, await, load, store, add}
+use Rattle.spmd_model.specs.Timelines.{counter, signal}
+use Rattle.spmd_model.specs.Acts.{post, await, load, store, add}
 use Rattle.spmd_model.specs.Viewed.{barriers_in_front}
 use Rattle.shared_words.specs.declared.poll.Poll.{Poll}
 use Rattle.shared_words.specs.declared.poll.Poll.TheVariants.{Ready, NotYet}

@@ -10,7 +10,7 @@ use Rattle.sync_plan.specs.declared.plan.Plan.{Plan}
 use Rattle.sync_plan.specs.declared.plan.Version.TheVariants.{One}
 use Rattle.spmd_model.specs.declared.style.Style.{Style}
 use Rattle.spmd_model.specs.declared.style.Style.TheVariants.{Arrive}
-use Rattle.spmd_model.specs.Timelines.{Act}
+use Rattle.spmd_model.specs.Acts.{Act}
 use Rattle.spmd_model.specs.Protocols.{Protocol, act_at, arrivals_at}
 use Rattle.spmd_model.specs.PlanProtocols.{protocol_by}
 use Rattle.shared_words.specs.declared.roles.Role.{Role}

@@ -1,6 +1,7 @@
 pub mod Places
 pub mod Words
 pub mod Seats
+pub mod Shown
 pub mod Steps
 pub mod Runs
 pub mod Vain

@@ -1,6 +1,6 @@
 -- Places of a machine's processors among their acts, as the shared words' steps come to them.
 use Rattle.std.specs.Prelude.{ℕ, zero, suc, ◌+◌, ◌-◌, List, [], ◌∷◌, Some, drop, if◌then◌else◌}
-use Rattle.spmd_model.specs.Timelines.{Act}
+use Rattle.spmd_model.specs.Acts.{Act}
 use Rattle.spmd_model.specs.Protocols.{Protocol, act_at, arrivals_at, is_gathered, settled}
 
 -- behind the acts that stand at place n and that no other processor sees

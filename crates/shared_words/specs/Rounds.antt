@@ -3,7 +3,7 @@ use Rattle.std.specs.Prelude.{ℕ, ◌+◌, ◌-◌, ◌≡◌, ◌≤◌, ◌<�
 use Rattle.nest_tree.specs.Tree.{Tree}
 use Rattle.sync_plan.specs.declared.plan.Plan.{Plan}
 use Rattle.spmd_model.specs.Free.{IsInVain}
-use Rattle.spmd_model.specs.Timelines.{Act}
+use Rattle.spmd_model.specs.Acts.{Act}
 use Rattle.spmd_model.specs.declared.style.Style.{Style}
 use Rattle.spmd_model.specs.PlanProtocols.{protocol_by}
 use Rattle.shared_words.specs.Places.{total}

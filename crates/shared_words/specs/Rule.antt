@@ -4,7 +4,7 @@ use mathlib.Core.Option.{some}
 use lib.ListN.{get_elem?}
 use Rattle.atomic_table.specs.Table.{State, Me, Step}
 use Rattle.spmd_model.specs.Free.{IsInVain}
-use Rattle.spmd_model.specs.Timelines.{Act, post, await, load, store, add, print}
+use Rattle.spmd_model.specs.Acts.{Act, post, await, load, store, add, print}
 use Rattle.spmd_model.specs.Protocols.{Protocol, act_at, arrivals_at}
 use Rattle.shared_words.specs.declared.view.Given.{Given}
 use Rattle.shared_words.specs.declared.roles.Role.{Role}
@@ -15,7 +15,7 @@ use Rattle.shared_words.specs.declared.view.View.{View}
 use Rattle.shared_words.specs.declared.view.View.TheVariants.{Seated, Away}
 use Rattle.shared_words.specs.Places.{behind, behind_row, settled_at}
 use Rattle.shared_words.specs.Words.{word_value}
-use Rattle.shared_words.specs.Seats.{AreOne}
+use Rattle.shared_words.specs.Shown.{AreOne}
 use Rattle.shared_words.specs.Vain.{AreReached}
 use Rattle.shared_words.specs.Homes.{Subject, known_in, protocol_given, protocol_in, processor_of, position_of, role_in}
 

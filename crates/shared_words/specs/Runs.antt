@@ -9,9 +9,11 @@ use Rattle.sync_plan.specs.Ordered.{IsOrdered}
 use Rattle.sync_plan.specs.declared.plan.Plan.{Plan}
 use Rattle.spmd_model.specs.Cells.{plus}
 use Rattle.spmd_model.specs.Lawful.{Moves}
-use Rattle.spmd_model.specs.States.{State, stepped}
+use Rattle.spmd_model.specs.States.{State}
+use Rattle.spmd_model.specs.Runs.{stepped}
 use Rattle.spmd_model.specs.Machines.{machine_by}
-use Rattle.spmd_model.specs.Timelines.{Machine, Word, counter, post, await, load, store, add}
+use Rattle.spmd_model.specs.Timelines.{Machine, Word, counter}
+use Rattle.spmd_model.specs.Acts.{post, await, load, store, add}
 use Rattle.spmd_model.specs.declared.style.Style.{Style}
 use Rattle.spmd_model.specs.Protocols.{act_at, arrivals_at, is_arrival}
 use Rattle.spmd_model.specs.PlanProtocols.{AreOfStateBy, protocol_by}

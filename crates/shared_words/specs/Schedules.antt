@@ -2,7 +2,7 @@
 use Rattle.std.specs.Prelude.{ℕ, ◌<◌, ◌++◌, All, List, replicate}
 use Rattle.nest_tree.specs.Tree.{Tree}
 use Rattle.sync_plan.specs.declared.plan.Plan.{Plan}
-use Rattle.spmd_model.specs.States.{run_of}
+use Rattle.spmd_model.specs.Runs.{run_of}
 use Rattle.spmd_model.specs.Machines.{machine_by}
 use Rattle.spmd_model.specs.declared.style.Style.{Style}
 use Rattle.shared_words.specs.Runs.{AreWordsOf}

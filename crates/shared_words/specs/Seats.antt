@@ -4,7 +4,6 @@ use mathlib.Core.Option.{some}
 use lib.ListN.{get_elem?}
 use Rattle.spmd_model.specs.Protocols.{Protocol}
 use Rattle.shared_words.specs.Places.{settled_at}
-use Rattle.shared_words.specs.Words.{AreShown}
 use Rattle.shared_words.specs.declared.roles.Role.{Role}
 use Rattle.shared_words.specs.declared.roles.Role.TheVariants.{Main, Cell, Spent, Over}
 use Rattle.shared_words.specs.declared.roles.Stage.{Stage}
@@ -30,9 +29,3 @@ pub record AreSeated (m : Protocol) (roles : List Role) (at : ℕ → ℕ) : Typ
   pub all : length stages ≡ m.workers
   pub says : (j : ℕ) (r : Role) → get_elem? roles j ≡ some r → Says m stages seats at j r
   pub rests : (p : ℕ) (stage : Stage) → slice_get stages p ≡ Some stage → Rests m p (at p) stage
-
--- the words and the seats show a state of the machine
-pub record AreOne (m : Protocol) (words : List ℕ) (roles : List Role) : Type 0 where
-  pub at : ℕ → ℕ
-  pub shown : AreShown m words at
-  pub seated : AreSeated m roles at

@@ -3,7 +3,8 @@ use Rattle.std.specs.Prelude.{ℕ, ◌+◌, ◌*◌, ◌≡◌, ◌≢◌, ◌�
 use mathlib.Core.Option.{some}
 use lib.ListN.{get_elem?}
 use Rattle.spmd_model.specs.Cells.{plus}
-use Rattle.spmd_model.specs.Timelines.{Word, counter, post, await, load, store, add}
+use Rattle.spmd_model.specs.Timelines.{Word, counter}
+use Rattle.spmd_model.specs.Acts.{post, await, load, store, add}
 use Rattle.spmd_model.specs.Lawful.{Moves}
 use Rattle.spmd_model.specs.Protocols.{Protocol, act_at, arrivals_at, is_arrival}
 use Rattle.nest_tree.specs.Tree.{Tree}
@@ -17,7 +18,7 @@ use Rattle.shared_words.specs.declared.roles.Stage.{Stage}
 use Rattle.shared_words.specs.declared.roles.Stage.TheVariants.{NotOut, Out, Ended}
 use Rattle.shared_words.specs.Places.{behind, behind_row, settled_at}
 use Rattle.shared_words.specs.Words.{arrival_word, word_count, word_of, word_value}
-use Rattle.shared_words.specs.Seats.{AreOne}
+use Rattle.shared_words.specs.Shown.{AreOne}
 
 -- behind the step these words show the machine too, where p has come to its place k and all others have stayed, and p's seat has so many misses, of which the last found this
 pub record ComesTo {m : Protocol} {words : List ℕ} {roles : List Role} (before : AreOne m words roles) (after : List ℕ) (seat p k misses seen : ℕ) : Type 0 where

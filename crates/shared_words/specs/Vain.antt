@@ -1,6 +1,7 @@
 -- What a poll that found too little says of places that the processors had come to before.
 use Rattle.std.specs.Prelude.{ℕ, ◌*◌, ◌≡◌, ◌≤◌, ◌<◌, true, false, Some, length}
-use Rattle.spmd_model.specs.Timelines.{Word, counter, await}
+use Rattle.spmd_model.specs.Timelines.{Word, counter}
+use Rattle.spmd_model.specs.Acts.{await}
 use Rattle.spmd_model.specs.Free.{IsInVain}
 use Rattle.spmd_model.specs.Protocols.{Protocol, act_at, arrivals_at, is_arrival, shown_at}
 use Rattle.shared_words.specs.Places.{settled_at, total}

@@ -1,7 +1,8 @@
 -- Where cells, counters, signals and the arrival word lie, and what they show of a machine.
 use Rattle.std.specs.Prelude.{ℕ, ◌+◌, ◌*◌, ◌≡◌, ◌≤◌, ◌<◌, ℤ, true, List, Some, length, map, take, slice_index}
 use Rattle.std.specs.Int.{w64, cast_signed}
-use Rattle.spmd_model.specs.Timelines.{Word, counter, signal, await}
+use Rattle.spmd_model.specs.Timelines.{Word, counter, signal}
+use Rattle.spmd_model.specs.Acts.{await}
 use Rattle.spmd_model.specs.Lawful.{IsPosted}
 use Rattle.spmd_model.specs.Protocols.{Protocol, act_at, arrivals_at, shown_at}
 use Rattle.shared_words.specs.Places.{passed_at, total}

@@ -4,12 +4,12 @@ ghost use Rattle.std.specs.Prelude.{ℕ, List, ◌≡◌, ◌<◌, ◌+◌, leng
 ghost use Rattle.nest_tree.specs.Tree.{Tree};
 ghost use Rattle.sync_plan.specs.declared.plan.Plan.{Plan};
 ghost use Rattle.spmd_model.specs.Lawful.{Moves};
-ghost use Rattle.spmd_model.specs.States.{IsEnded, run_of};
+ghost use Rattle.spmd_model.specs.Runs.{IsEnded, run_of};
 ghost use Rattle.spmd_model.specs.Machines.{machine_by};
 ghost use Rattle.spmd_model.specs.declared.style.Style.{Style};
 ghost use Rattle.spmd_model.specs.PlanProtocols.{protocol_by};
 ghost use Rattle.shared_words.specs.Runs.{AreStepsOf, AreWordsOf, IsRunnable};
-ghost use Rattle.shared_words.specs.Seats.{AreOne};
+ghost use Rattle.shared_words.specs.Shown.{AreOne};
 ghost use Rattle.shared_words.specs.declared.roles.Role.{Role};
 ghost use Rattle.shared_words.specs.Schedules.{HasSchedule, gone_on};
 

@@ -5,7 +5,8 @@ use Rattle.std.specs.List.{flat_map}
 use Rattle.std.proofs.lemmas.List.{get_or-map}
 use Rattle.nest_walk.specs.Tables.{entries}
 use Rattle.spmd_model.specs.Deeds.{Deed, awaiting}
-use Rattle.spmd_model.specs.Timelines.{Word, await, counter, signal, act_at}
+use Rattle.spmd_model.specs.Timelines.{Word, counter, signal}
+use Rattle.spmd_model.specs.Acts.{await, act_at}
 use Rattle.spmd_model.proofs.Counters.{awaited_post}
 use Rattle.spmd_model.proofs.MachineOrder.{sound_by}
 use Rattle.spmd_model.proofs.Deeds.{await_is}

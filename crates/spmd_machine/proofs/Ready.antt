@@ -12,7 +12,8 @@ use Rattle.sync_plan.specs.declared.plan.Plan.{Plan}
 use Rattle.spmd_model.specs.Deeds.{Deed}
 use Rattle.spmd_model.specs.Machines.{machine_by}
 use Rattle.spmd_model.specs.declared.style.Style.{Style}
-use Rattle.spmd_model.specs.States.{State, first_state, stepped}
+use Rattle.spmd_model.specs.States.{State, first_state}
+use Rattle.spmd_model.specs.Runs.{stepped}
 use Rattle.spmd_model.specs.Timelines as Timelines
 use Rattle.spmd_machine.specs.Machines.{ComesNext, HasDone, IsReached, IsMachine, IsSameMachine, StepsTo, model_of, plan_in, shared_in, shown, step_answer, style_in, tree_in}
 use Rattle.spmd_machine.specs.Processors.{IsKept, left_of, position_of, room_of}

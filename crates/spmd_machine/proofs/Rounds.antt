@@ -8,8 +8,10 @@ use Rattle.std.proofs.lemmas.List.Concat.{flat_map-append}
 use Rattle.list_lemmas.proofs.Ranges.{range_split}
 use Rattle.spmd_model.specs.Quiet.{past_quiet, quiet_next, turned}
 use Rattle.spmd_model.specs.Reached.{HasCome}
-use Rattle.spmd_model.specs.States.{State, next_act, stepped, words_of}
-use Rattle.spmd_model.specs.Timelines.{Act, post, await, load, store, add, print, Machine}
+use Rattle.spmd_model.specs.States.{State, next_act, words_of}
+use Rattle.spmd_model.specs.Runs.{stepped}
+use Rattle.spmd_model.specs.Timelines.{Machine}
+use Rattle.spmd_model.specs.Acts.{Act, post, await, load, store, add, print}
 use Rattle.spmd_model.proofs.Runs.{come_stepped}
 use Rattle.spmd_machine.specs.Machines.{answer_at, step_answer}
 use Rattle.spmd_model.specs.Fair.{acts_to_go, can_go, can_step}

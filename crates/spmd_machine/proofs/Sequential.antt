@@ -13,9 +13,11 @@ use Rattle.sync_plan.specs.declared.plan.Plan.{Plan}
 use Rattle.sync_plan.proofs.Fits.{fit_parts}
 use Rattle.spmd_model.specs.Reached.{HasCome, IsSequential, positions_of}
 use Rattle.spmd_model.specs.Sequential.{memory_at}
-use Rattle.spmd_model.specs.States.{IsEnded, State, next_act}
+use Rattle.spmd_model.specs.States.{State, next_act}
+use Rattle.spmd_model.specs.Runs.{IsEnded}
 use Rattle.spmd_model.specs.Machines.{instances_in_front, machine_by, timeline_by}
-use Rattle.spmd_model.specs.Timelines.{Job, job, load}
+use Rattle.spmd_model.specs.Timelines.{Job, job}
+use Rattle.spmd_model.specs.Acts.{load}
 use Rattle.spmd_model.specs.declared.style.Style.{Style}
 use Rattle.spmd_model.proofs.ActLaws.{gives}
 use Rattle.spmd_model.proofs.Ends.{ended_memory, ended_output, output_front}

@@ -5,8 +5,10 @@ use Rattle.std.proofs.lemmas.Bool.{cases_Bool, lt-ltb}
 use Rattle.std.proofs.lemmas.List.{get_or-set_same}
 use Rattle.spmd_model.specs.Deeds.{Deed, posting, awaiting, loading, storing, adding, printing, deed_of}
 use Rattle.spmd_model.specs.Quiet.{is_quiet, past_quiet, quiet_first, quiet_next}
-use Rattle.spmd_model.specs.States.{State, acted, is_possible, moved, next_act, stepped, stepped_by}
-use Rattle.spmd_model.specs.Timelines.{Act, post, await, load, store, add, print, Machine, acts_of}
+use Rattle.spmd_model.specs.States.{State, acted, is_possible, moved, next_act}
+use Rattle.spmd_model.specs.Runs.{stepped, stepped_by}
+use Rattle.spmd_model.specs.Timelines.{Machine}
+use Rattle.spmd_model.specs.Acts.{Act, post, await, load, store, add, print, acts_of}
 use Rattle.spmd_model.proofs.Quiet.{can_do}
 use Rattle.turns.proofs.CounterLists.{drop_at}
 use Rattle.spmd_model.specs.Fair.{can_go, can_step}

@@ -1,7 +1,8 @@
 -- A machine whose processor does the acts on its own cells that stand next.
 use Rattle.std.proofs.Common.{◌≡◌, ℕ, ◌<◌, nat_lt, Bool, true, false, true≢false, fold, length, refl, sym, ◌∙◌, ap, arith}
 use Rattle.spmd_model.specs.Quiet.{first_turn, past_quiet, quiet_next, turned}
-use Rattle.spmd_model.specs.States.{first_state, stepped}
+use Rattle.spmd_model.specs.States.{first_state}
+use Rattle.spmd_model.specs.Runs.{stepped}
 use Rattle.spmd_machine.specs.Machines.{GoesQuietly, IsSameMachine, StepsTo, model_of, shared_in, shown}
 use Rattle.spmd_machine.specs.Promises.{one_round}
 use Rattle.spmd_machine.specs.declared.answer.StepAnswer.{StepAnswer}

@@ -10,8 +10,10 @@ use Rattle.sync_plan.specs.declared.plan.Plan.{Plan}
 use Rattle.spmd_model.specs.Deeds.{Deed, posting, awaiting, loading, storing, adding, printing, can_do, deed_of, did}
 use Rattle.spmd_model.specs.Machines.{machine_by}
 use Rattle.spmd_model.specs.declared.style.Style.{Style}
-use Rattle.spmd_model.specs.States.{State, acted, is_possible, moved, next_act, registers_of, stepped, stepped_by, words_of}
-use Rattle.spmd_model.specs.Timelines.{Act, Word, post, await, load, store, add, print, counter, signal, acts_of}
+use Rattle.spmd_model.specs.States.{State, acted, is_possible, moved, next_act, registers_of, words_of}
+use Rattle.spmd_model.specs.Runs.{stepped, stepped_by}
+use Rattle.spmd_model.specs.Timelines.{Word, counter, signal}
+use Rattle.spmd_model.specs.Acts.{Act, post, await, load, store, add, print, acts_of}
 use Rattle.spmd_model.proofs.Deeds.{acted_is, possible_is}
 use Rattle.spmd_model.proofs.MachineDeeds.{acts_do}
 use Rattle.spmd_model.proofs.StateAt.{same_state}

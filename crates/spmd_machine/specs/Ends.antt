@@ -7,7 +7,7 @@ use Rattle.nest_tree.specs.contracts.tree.Program as programs
 use Rattle.nest_tree.specs.declared.tree.Program.{Program}
 use Rattle.sync_plan.specs.contracts.plan.Plan as plans
 use Rattle.sync_plan.specs.declared.plan.Plan.{Plan}
-use Rattle.spmd_model.specs.States.{IsEnded, run_of}
+use Rattle.spmd_model.specs.Runs.{IsEnded, run_of}
 use Rattle.spmd_model.specs.Machines.{machine_by}
 use Rattle.spmd_model.specs.Timelines.{Machine}
 use Rattle.spmd_model.specs.contracts.style.Style as styles

@@ -15,10 +15,11 @@ use Rattle.sync_plan.specs.Fit.{IsFit}
 use Rattle.sync_plan.specs.Own.{own_of}
 use Rattle.sync_plan.specs.declared.plan.Plan.{Plan}
 use Rattle.spmd_model.specs.Quiet.{quiet_next}
-use Rattle.spmd_model.specs.States.{State, next_act, run_of, stepped, words_of}
+use Rattle.spmd_model.specs.States.{State, next_act, words_of}
+use Rattle.spmd_model.specs.Runs.{run_of, stepped}
 use Rattle.spmd_model.specs.Machines.{machine_by}
 use Rattle.spmd_model.specs.Timelines as Timelines
-use Rattle.spmd_model.specs.Timelines.{Act, post, await, load, store, add, print}
+use Rattle.spmd_model.specs.Acts.{Act, post, await, load, store, add, print}
 use Rattle.spmd_model.specs.declared.style.Style.{Style}
 use Rattle.spmd_machine.specs.Processors.{IsKept, room_of, state_of}
 use Rattle.instance_runs.specs.Loads.{width}

@@ -12,7 +12,8 @@ use Rattle.spmd_model.specs.Fair.{acts_to_go, can_step}
 use Rattle.spmd_model.specs.Quiet.{turned}
 use Rattle.spmd_model.specs.States.{State, next_act}
 use Rattle.spmd_model.specs.Machines.{instances_in_front, job_under, machine_by}
-use Rattle.spmd_model.specs.Timelines.{Job, Machine, load}
+use Rattle.spmd_model.specs.Timelines.{Job, Machine}
+use Rattle.spmd_model.specs.Acts.{load}
 use Rattle.spmd_model.specs.declared.style.Style.{Style}
 
 -- a round, one step of each processor, and so many rounds

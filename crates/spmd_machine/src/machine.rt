@@ -57,10 +57,12 @@ impl<'a> Machine<'a> {
     ghost use Rattle.spmd_model.specs.Fair.{acts_to_go, can_step};
     ghost use Rattle.spmd_model.specs.Quiet.{first_turn, past_quiet, quiet_next, turned};
     ghost use Rattle.spmd_model.specs.Sequential.{memory_at};
-    ghost use Rattle.spmd_model.specs.States.{IsEnded, next_act, stepped};
+    ghost use Rattle.spmd_model.specs.States.{next_act};
+    ghost use Rattle.spmd_model.specs.Runs.{IsEnded, stepped};
     ghost use Rattle.std.specs.Prelude.{slice_get};
     ghost use Rattle.spmd_model.specs.Machines.{timeline_by};
-    ghost use Rattle.spmd_model.specs.Timelines.{Job, job, load};
+    ghost use Rattle.spmd_model.specs.Timelines.{Job, job};
+    ghost use Rattle.spmd_model.specs.Acts.{load};
     ghost use Rattle.spmd_machine.specs.Promises.{FindsSequential, one_round, rounds};
     ghost use Rattle.spmd_machine.specs.Machines.{ComesNext, GoesQuietly, HasDone, IsMachine, IsSameMachine, IsSettled, IsSpot, LoadsNext, StepsTo, StoresNext, model_of, plan_in, shared_in, shown, step_answer, style_in, tree_in};
 

@@ -4,7 +4,7 @@ ghost use Rattle.std.specs.Prelude.{◌≡◌, take};
 ghost use Rattle.nest_tree.specs.View.{tree_of};
 ghost use Rattle.nest_model.specs.Memory.{last_memory};
 ghost use Rattle.sync_plan.specs.Ordered.{IsOrdered};
-ghost use Rattle.spmd_model.specs.States.{IsEnded};
+ghost use Rattle.spmd_model.specs.Runs.{IsEnded};
 ghost use Rattle.spmd_machine.specs.Ends.{HasRun};
 ghost use Rattle.spmd_machine.specs.Machines.{IsMachine, model_of, plan_in, shared_in, shown, style_in, tree_in};
 

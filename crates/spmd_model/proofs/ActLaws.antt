@@ -7,7 +7,8 @@ use Rattle.std.proofs.lemmas.Option.{slice_get_within}
 use Rattle.list_lemmas.proofs.Gets.{one_element}
 use Rattle.nest_model.specs.Memory.{cell_value}
 use Rattle.spmd_model.specs.Cells.{plus, with_change}
-use Rattle.spmd_model.specs.Timelines.{Act, post, await, load, store, add, print, Job, Machine, Moment, Word, boundary, job, act_at, acts_from, acts_of}
+use Rattle.spmd_model.specs.Timelines.{Job, Machine, Moment, Word, boundary, job}
+use Rattle.spmd_model.specs.Acts.{Act, post, await, load, store, add, print, act_at, acts_from, acts_of}
 use Rattle.spmd_model.specs.States.{assigned_by}
 use Rattle.spmd_model.specs.Sequential.{memory_at_end, loads_by, memory_at, memory_behind, stored_at, value_at}
 use Rattle.spmd_model.specs.Ordered.{IsOrderedMachine, IsSound, Needs}

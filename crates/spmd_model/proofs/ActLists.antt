@@ -5,7 +5,8 @@ use Rattle.std.proofs.lemmas.Bool.{cases_lt}
 use Rattle.std.proofs.lemmas.List.{append-nil, append_assoc}
 use Rattle.std.proofs.lemmas.Option.{slice_get_within}
 use Rattle.list_lemmas.proofs.Gets.{get-front, get-behind}
-use Rattle.spmd_model.specs.Timelines.{Act, Machine, Moment, moment_acts, acts_from, act_at}
+use Rattle.spmd_model.specs.Timelines.{Machine, Moment}
+use Rattle.spmd_model.specs.Acts.{Act, moment_acts, acts_from, act_at}
 use Rattle.spmd_model.specs.Lawful.{acts_in_front}
 
 -- the acts of a moment stand between those of the moments in front of it and those behind

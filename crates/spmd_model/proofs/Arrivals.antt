@@ -9,7 +9,8 @@ use Rattle.std.proofs.lemmas.List.Elements.{All-append, All-cons, All-head, All-
 use Rattle.std.proofs.lemmas.List.Sums.{fold-append}
 use Rattle.std.proofs.lemmas.Option.{slice_get_within}
 use Rattle.list_lemmas.proofs.Gets.{get-front, get-behind}
-use Rattle.spmd_model.specs.Timelines.{Act, post, await, load, store, add, print, Job, Moment, Word, counter, signal, boundary, job, acts_from, boundary_acts, job_acts, last_act, moment_acts}
+use Rattle.spmd_model.specs.Timelines.{Job, Moment, Word, counter, signal, boundary, job}
+use Rattle.spmd_model.specs.Acts.{Act, post, await, load, store, add, print, acts_from, boundary_acts, job_acts, last_act, moment_acts}
 use Rattle.owner_partition.proofs.Sites.{all_at}
 use Rattle.spmd_model.specs.Protocols.{arrived, is_arrival}
 use Rattle.spmd_model.proofs.CellsThere.{every}

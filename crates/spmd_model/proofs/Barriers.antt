@@ -3,7 +3,8 @@ use Rattle.std.proofs.Common.{◌≡◌, ◌≢◌, ℕ, zero, suc, ◌+◌, ◌
 use Rattle.std.specs.Prelude.{slice_get}
 use Rattle.std.specs.List.{All, Contains}
 use Rattle.std.proofs.lemmas.List.Sums.{fold-append}
-use Rattle.spmd_model.specs.Timelines.{post, await, Machine, Moment, Word, counter, boundary, job, act_at, acts_of}
+use Rattle.spmd_model.specs.Timelines.{Machine, Moment, Word, counter, boundary, job}
+use Rattle.spmd_model.specs.Acts.{post, await, act_at, acts_of}
 use Rattle.spmd_model.specs.Ordered.{IsSound}
 use Rattle.spmd_model.specs.Lawful.{IsPosted, acts_in_front}
 use Rattle.spmd_model.proofs.ActLists.{act_of_moment, found}

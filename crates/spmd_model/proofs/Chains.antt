@@ -4,7 +4,8 @@ use Rattle.std.specs.Prelude.{slice_get}
 use Rattle.std.specs.List.{Contains}
 use Rattle.std.proofs.lemmas.Bool.{cases_eq, cases_lt}
 use Rattle.std.proofs.lemmas.Option.{slice_get_within}
-use Rattle.spmd_model.specs.Timelines.{post, await, Job, Machine, Moment, Word, boundary, job, act_at, moment_acts}
+use Rattle.spmd_model.specs.Timelines.{Job, Machine, Moment, Word, boundary, job}
+use Rattle.spmd_model.specs.Acts.{post, await, act_at, moment_acts}
 use Rattle.spmd_model.specs.Ordered.{Conflict, Hop, IsChain, IsOrderedMachine, IsSound, awaited_in, number_in}
 use Rattle.spmd_model.specs.Lawful.{IsLawful, acts_in_front}
 use Rattle.spmd_model.proofs.ActLists.{act_of_moment, found, in_front-more, in_front-rises}

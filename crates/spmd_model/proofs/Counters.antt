@@ -5,7 +5,8 @@ use Rattle.std.proofs.lemmas.Bool.{cases_Bool, cases_eq, cases_lt}
 use Rattle.std.proofs.lemmas.List.Sums.{fold-append}
 use Rattle.std.proofs.lemmas.Option.{slice_get_cases, slice_get_within}
 use Rattle.list_lemmas.proofs.Gets.{one_element}
-use Rattle.spmd_model.specs.Timelines.{Act, post, await, load, store, add, print, Machine, Word, counter, signal, boundary, act_at, acts_of}
+use Rattle.spmd_model.specs.Timelines.{Machine, Word, counter, signal, boundary}
+use Rattle.spmd_model.specs.Acts.{Act, post, await, load, store, add, print, act_at, acts_of}
 use Rattle.spmd_model.specs.Ordered.{IsSound}
 use Rattle.spmd_model.specs.Lawful.{IsPosted, acts_in_front, counted, counter_at, is_same}
 use Rattle.spmd_model.proofs.Lists.{take-more, take_past}

@@ -8,7 +8,8 @@ use Rattle.nest_model.specs.Visits.{Visit}
 use Rattle.owner_partition.specs.declared.anchor.Anchor.{Anchor}
 use Rattle.owner_partition.specs.Phases.{phases}
 use Rattle.sync_plan.specs.declared.plan.Plan.{Plan}
-use Rattle.spmd_model.specs.Timelines.{Act, post, await, load, store, add, print, Job, Machine, Moment, Word, boundary, job, acts_from, boundary_acts, job_acts, last_act, moment_acts}
+use Rattle.spmd_model.specs.Timelines.{Job, Machine, Moment, Word, boundary, job}
+use Rattle.spmd_model.specs.Acts.{Act, post, await, load, store, add, print, acts_from, boundary_acts, job_acts, last_act, moment_acts}
 use Rattle.spmd_model.specs.States.{State, acted, assigned_by, is_possible, line_by}
 use Rattle.spmd_model.specs.Deeds.{posting, awaiting, loading, storing, adding, printing, boundary_deeds, can_do, deed_of, did, job_deeds, last_deed, moment_deeds}
 use Rattle.std.proofs.lemmas.Option.{slice_get_cases, slice_get_within}

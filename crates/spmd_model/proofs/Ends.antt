@@ -6,8 +6,10 @@ use Rattle.std.proofs.lemmas.Bool.{cases_Bool, eq-eqb}
 use Rattle.nest_model.specs.Memory.{cell_value}
 use Rattle.std.proofs.lemmas.Grind.{flat_map-append}
 use Rattle.std.proofs.lemmas.List.{append-nil, ext_get_or, length-replicate, take-append-drop, take_all}
-use Rattle.spmd_model.specs.Timelines.{await, load, Job, Machine, Moment, Word, boundary, job, boundary_acts, job_acts, last_act, moment_acts, acts_from, acts_of}
-use Rattle.spmd_model.specs.States.{State, IsEnded, line_by}
+use Rattle.spmd_model.specs.Timelines.{Job, Machine, Moment, Word, boundary, job}
+use Rattle.spmd_model.specs.Acts.{await, load, boundary_acts, job_acts, last_act, moment_acts, acts_from, acts_of}
+use Rattle.spmd_model.specs.States.{State, line_by}
+use Rattle.spmd_model.specs.Runs.{IsEnded}
 use Rattle.spmd_model.specs.Sequential.{given_at, memory_at_end, loads_by, memory_at, moment_line, output_along, printed_line, whole_output}
 use Rattle.spmd_model.specs.Ordered.{IsSound}
 use Rattle.spmd_model.specs.Lawful.{IsLawful, act_line, printed_at}

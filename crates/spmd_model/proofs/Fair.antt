@@ -10,8 +10,10 @@ use Rattle.list_lemmas.proofs.Ranges.{range_split}
 use Rattle.spmd_model.specs.Fair.{IsBlock, IsFair, acts_to_go, blocks_in, can_go, can_step, first_of}
 use Rattle.spmd_model.specs.Ordered.{IsSound}
 use Rattle.spmd_model.specs.Reached.{HasCome}
-use Rattle.spmd_model.specs.States.{IsEnded, State, acted, first_state, moved, next_act, run_of, stepped, stepped_by}
-use Rattle.spmd_model.specs.Timelines.{Act, post, await, load, store, add, print, Machine, counter, signal, acts_of}
+use Rattle.spmd_model.specs.States.{State, acted, first_state, moved, next_act}
+use Rattle.spmd_model.specs.Runs.{IsEnded, run_of, stepped, stepped_by}
+use Rattle.spmd_model.specs.Timelines.{Machine, counter, signal}
+use Rattle.spmd_model.specs.Acts.{Act, post, await, load, store, add, print, acts_of}
 use Rattle.spmd_model.proofs.Keeps.{within_acts}
 use Rattle.spmd_model.proofs.Runs.{come_first, come_folded, come_stepped}
 use Rattle.spmd_model.proofs.Unstuck.{ended_or_goes}

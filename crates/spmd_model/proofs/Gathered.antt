@@ -20,7 +20,8 @@ use Rattle.sync_plan.specs.declared.plan.Plan.{Plan}
 use Rattle.sync_plan.specs.Waits.{awaited_behind, does_wait_at, is_awaited_behind, posts_at, waits_for}
 use Rattle.sync_plan.proofs.ProcessorSets.{any_from}
 use Rattle.sync_plan.proofs.BarrierOrder.{in_filter}
-use Rattle.spmd_model.specs.Timelines.{Act, post, await, load, store, add, print, Job, Machine, Word, counter, signal, boundary, job, act_at, acts_of}
+use Rattle.spmd_model.specs.Timelines.{Job, Machine, Word, counter, signal, boundary, job}
+use Rattle.spmd_model.specs.Acts.{Act, post, await, load, store, add, print, act_at, acts_of}
 use Rattle.spmd_model.specs.Ordered.{IsSound}
 use Rattle.spmd_model.specs.Lawful.{counted, counter_at}
 use Rattle.spmd_model.specs.Planned.{boundary_of}

@@ -11,7 +11,8 @@ use Rattle.spmd_model.proofs.Registers.{print_whole}
 use Rattle.spmd_model.specs.Ordered.{IsOrderedMachine, IsSound}
 use Rattle.spmd_model.specs.Sequential.{memory_at_end, loaded_at, loaded_by, registers_at, stored_at, stored_by, whole_output}
 use Rattle.spmd_model.specs.Shared.{AreLawful}
-use Rattle.spmd_model.specs.Timelines.{Act, post, await, load, store, add, print, Machine, counter, act_at, acts_of}
+use Rattle.spmd_model.specs.Timelines.{Machine, counter}
+use Rattle.spmd_model.specs.Acts.{Act, post, await, load, store, add, print, act_at, acts_of}
 use Rattle.spmd_model.proofs.ActLists.{found}
 use Rattle.spmd_model.proofs.MomentActs.{IsLastIn, tells}
 use Rattle.spmd_model.proofs.Shared as shared

@@ -5,7 +5,8 @@ use Rattle.std.proofs.lemmas.Bool.{cases_Bool, cases_eq, cases_lt, eqb-true, le-
 use Rattle.std.proofs.lemmas.List.{length-append, length-map}
 use Rattle.std.proofs.lemmas.Option.{slice_get_within}
 use Rattle.list_lemmas.proofs.Elements.{contains_at}
-use Rattle.spmd_model.specs.Timelines.{Act, load, Job, Machine, job, act_at, acts_of, last_act, moment_acts}
+use Rattle.spmd_model.specs.Timelines.{Job, Machine, job}
+use Rattle.spmd_model.specs.Acts.{Act, load, act_at, acts_of, last_act, moment_acts}
 use Rattle.spmd_model.specs.Ordered.{Conflict, IsOrderedMachine, IsSound, Needs}
 use Rattle.spmd_model.specs.Lawful.{IsLawful, Moves, acts_in_front, is_done, stores_to}
 use Rattle.spmd_model.proofs.ActLists.{Found, in_front-more, in_front-rises}

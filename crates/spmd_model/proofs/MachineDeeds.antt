@@ -17,7 +17,8 @@ use Rattle.sync_plan.specs.declared.plan.Plan.{Plan}
 use Rattle.sync_plan.specs.Fit.{IsFit}
 use Rattle.sync_plan.specs.Own.{Own, own_cell, own_loop, own_of}
 use Rattle.sync_plan.specs.Waits.{posts_at, waits_for}
-use Rattle.spmd_model.specs.Timelines.{Job, acts_of, counter, job}
+use Rattle.spmd_model.specs.Timelines.{Job, counter, job}
+use Rattle.spmd_model.specs.Acts.{acts_of}
 use Rattle.spmd_model.specs.Closings.{closings_of, has_stored, keeping, keeping_of, last_owner, total_of, totalling, totalling_of}
 use Rattle.spmd_model.specs.Deeds.{Deed, boundary_deeds, deed_of, job_deeds, moment_deeds, owned_by}
 use Rattle.spmd_model.specs.Planned.{boundary_of}

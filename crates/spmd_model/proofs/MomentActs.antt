@@ -8,7 +8,8 @@ use Rattle.std.proofs.lemmas.Option.{slice_get-map}
 use Rattle.std.proofs.lemmas.List.{length-map}
 use Rattle.list_lemmas.proofs.Gets.{get-front, get-behind}
 use Rattle.list_lemmas.proofs.Elements.{contains_at}
-use Rattle.spmd_model.specs.Timelines.{Act, post, await, load, store, add, print, Job, Moment, Word, boundary, job, boundary_acts, job_acts, last_act, moment_acts}
+use Rattle.spmd_model.specs.Timelines.{Job, Moment, Word, boundary, job}
+use Rattle.spmd_model.specs.Acts.{Act, post, await, load, store, add, print, boundary_acts, job_acts, last_act, moment_acts}
 use Rattle.spmd_model.proofs.Lists.{place_of}
 
 -- ---- one kind each

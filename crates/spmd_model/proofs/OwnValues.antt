@@ -18,7 +18,8 @@ use Rattle.spmd_model.specs.Lawful.{acts_in_front}
 use Rattle.spmd_model.specs.Sequential.{loaded_at, loaded_by, loads_by, memory_at, stored_at, value_at}
 use Rattle.spmd_model.specs.States.{assigned_by}
 use Rattle.spmd_model.specs.Machines.{machine_by, timeline_by}
-use Rattle.spmd_model.specs.Timelines.{Act, post, await, load, store, add, print, Job, Machine, Moment, boundary, job, act_at, job_acts, last_act, moment_acts}
+use Rattle.spmd_model.specs.Timelines.{Job, Machine, Moment, boundary, job}
+use Rattle.spmd_model.specs.Acts.{Act, post, await, load, store, add, print, act_at, job_acts, last_act, moment_acts}
 use Rattle.spmd_model.specs.declared.style.Style.{Style}
 use Rattle.spmd_model.proofs.ActLists.{act_of_moment, found, in_front-more}
 use Rattle.spmd_model.proofs.MomentActs.{IsChangeIn, IsLoadIn, tells}

@@ -10,7 +10,8 @@ use Rattle.nest_model.specs.Visits.{Visit}
 use Rattle.owner_partition.specs.Phases.{phases}
 use Rattle.sync_plan.specs.declared.plan.Plan.{Plan}
 use Rattle.sync_plan.specs.Boundaries.{gathers, is_barrier, kind_before}
-use Rattle.spmd_model.specs.Timelines.{await, post, Job, Moment, counter, signal, boundary, job, act_at, acts_of}
+use Rattle.spmd_model.specs.Timelines.{Job, Moment, counter, signal, boundary, job}
+use Rattle.spmd_model.specs.Acts.{await, post, act_at, acts_of}
 use Rattle.spmd_model.specs.Closings.{closings_of}
 use Rattle.spmd_model.specs.Planned.{boundary_of}
 use Rattle.spmd_model.specs.Rounds.{round_boundary, rounds_in, rounds_of}

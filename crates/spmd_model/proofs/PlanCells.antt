@@ -21,7 +21,8 @@ use Rattle.sync_plan.specs.declared.plan.Plan.{Plan}
 use Rattle.sync_plan.specs.Fit.{IsFit}
 use Rattle.sync_plan.specs.Own.{OwnLoop, at_slot, is_cell_of, own_cell, own_loop, own_of, place_in}
 use Rattle.sync_plan.specs.Stored.{AreStoredFirst}
-use Rattle.spmd_model.specs.Timelines.{Job, load, add, job, act_at}
+use Rattle.spmd_model.specs.Timelines.{Job, job}
+use Rattle.spmd_model.specs.Acts.{load, add, act_at}
 use Rattle.spmd_model.specs.Closings.{closings_of, has_stored, keeping, keeping_of, last_owner, moves_to, sets_to_zero, total_of, totalling, totalling_of}
 use Rattle.spmd_model.specs.Sequential.{loaded_at, loaded_by}
 use Rattle.spmd_model.specs.Machines.{instance_jobs, instances_in_front, job_under, machine_by, timeline_by}

@@ -6,8 +6,10 @@ use Rattle.std.proofs.lemmas.Bool.{cases_eq}
 use Rattle.std.proofs.lemmas.List.{get_or-set_other, get_or-set_same}
 use Rattle.std.proofs.lemmas.List.Elements.{All-head, All-nil, All-tail, All-cons}
 use Rattle.std.proofs.lemmas.List.Sums.{fold-append}
-use Rattle.spmd_model.specs.Timelines.{Act, post, await, load, store, add, print, Machine, Word, counter, signal, acts_of}
-use Rattle.spmd_model.specs.States.{State, acted, first_state, is_possible, moved, next_act, stepped, stepped_by}
+use Rattle.spmd_model.specs.Timelines.{Machine, Word, counter, signal}
+use Rattle.spmd_model.specs.Acts.{Act, post, await, load, store, add, print, acts_of}
+use Rattle.spmd_model.specs.States.{State, acted, first_state, is_possible, moved, next_act}
+use Rattle.spmd_model.specs.Runs.{stepped, stepped_by}
 use Rattle.spmd_model.specs.Quiet.{first_turn, is_quiet, quiet_first, quiet_next, past_quiet, turned, turns_of}
 use Rattle.spmd_model.specs.Reached.{HasCome}
 use Rattle.spmd_model.proofs.Lists.{drop_more}

@@ -5,7 +5,8 @@ use Rattle.std.proofs.lemmas.Bool.{leb-true}
 use Rattle.std.proofs.lemmas.List.{get_or_append_left, length-replicate, length-set, replicate-append-replicate, set-append_left, set-append_right, take_at}
 use Rattle.nest_model.specs.Memory.{cell_value}
 use Rattle.spmd_model.specs.Cells.{plus}
-use Rattle.spmd_model.specs.Timelines.{Act, post, await, load, store, add, print, Machine, Word, act_at, acts_of}
+use Rattle.spmd_model.specs.Timelines.{Machine, Word}
+use Rattle.spmd_model.specs.Acts.{Act, post, await, load, store, add, print, act_at, acts_of}
 use Rattle.spmd_model.specs.Sequential.{memory_at_end, memory_at, stored_at}
 use Rattle.spmd_model.specs.Ordered.{IsOrderedMachine, IsSound}
 use Rattle.spmd_model.specs.Lawful.{IsLawful, IsPosted, Moves}

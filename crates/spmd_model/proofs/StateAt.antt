@@ -6,8 +6,10 @@ use Rattle.std.proofs.lemmas.Bool.{cases_eq, le-leb}
 use Rattle.std.proofs.lemmas.List.{append-nil}
 use Rattle.nest_model.specs.Memory.{cell_value}
 use Rattle.spmd_model.specs.Cells.{plus}
-use Rattle.spmd_model.specs.Timelines.{Act, post, await, load, store, add, print, Machine, Word, counter, signal, act_at, acts_of}
-use Rattle.spmd_model.specs.States.{State, acted, assigned_by, first_state, is_possible, line_by, moved, next_act, registers_of, stepped, stepped_by, words_of}
+use Rattle.spmd_model.specs.Timelines.{Machine, Word, counter, signal}
+use Rattle.spmd_model.specs.Acts.{Act, post, await, load, store, add, print, act_at, acts_of}
+use Rattle.spmd_model.specs.States.{State, acted, assigned_by, first_state, is_possible, line_by, moved, next_act, registers_of, words_of}
+use Rattle.spmd_model.specs.Runs.{stepped, stepped_by}
 use Rattle.spmd_model.specs.Sequential.{registers_at, registers_behind, stored_at, stored_by}
 use Rattle.spmd_model.specs.Ordered.{IsOrderedMachine, IsSound}
 use Rattle.spmd_model.specs.Lawful.{IsLawful, Moves, act_line, counter_at, printed_at}

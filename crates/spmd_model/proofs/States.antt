@@ -5,13 +5,15 @@ use Rattle.std.proofs.lemmas.Bool.{cases_lt, leb-true}
 use Rattle.std.proofs.lemmas.List.{get_or_append_left, length-replicate, replicate-append-replicate, length-set, set_past, set-append_left, set-append_right}
 use Rattle.nest_model.specs.Memory.{cell_value}
 use Rattle.spmd_model.specs.Cells.{plus}
-use Rattle.spmd_model.specs.Timelines.{Act, post, await, load, store, add, print, Machine, act_at, acts_of}
+use Rattle.spmd_model.specs.Timelines.{Machine}
+use Rattle.spmd_model.specs.Acts.{Act, post, await, load, store, add, print, act_at, acts_of}
 use Rattle.spmd_model.specs.Ordered.{IsOrderedMachine, IsSound}
 use Rattle.spmd_model.specs.Shared.{AreLawful}
 use Rattle.spmd_model.specs.Lawful.{IsLawful, Moves}
 use Rattle.spmd_model.specs.Reached.{IsPossibleAt, memory_by, state_at}
 use Rattle.spmd_model.specs.Sequential.{stored_at}
-use Rattle.spmd_model.specs.States.{State, first_state, stepped}
+use Rattle.spmd_model.specs.States.{State, first_state}
+use Rattle.spmd_model.specs.Runs.{stepped}
 use Rattle.spmd_model.proofs.ActLaws as law
 use Rattle.spmd_model.proofs.StateAt.{first_at, stays_lawful, steps_to}
 use Rattle.spmd_model.specs.Protocols.{is_passed}

@@ -3,8 +3,10 @@ use Rattle.std.proofs.Common.{◌≡◌, ℕ, zero, suc, ◌+◌, ◌<◌, ◌�
 use Rattle.std.specs.Prelude.{slice_get, slice_index, Bool, List}
 use Rattle.std.proofs.lemmas.Bool.{cases_Bool, cases_eq, cases_lt, leb-false}
 use Rattle.std.proofs.lemmas.Option.{slice_get-get_or, slice_get_within}
-use Rattle.spmd_model.specs.Timelines.{Act, post, await, load, store, add, print, Machine, Word, counter, boundary, act_at, acts_of, moment_acts}
-use Rattle.spmd_model.specs.States.{State, IsEnded, is_possible, next_act, words_of}
+use Rattle.spmd_model.specs.Timelines.{Machine, Word, counter, boundary}
+use Rattle.spmd_model.specs.Acts.{Act, post, await, load, store, add, print, act_at, acts_of, moment_acts}
+use Rattle.spmd_model.specs.States.{State, is_possible, next_act, words_of}
+use Rattle.spmd_model.specs.Runs.{IsEnded}
 use Rattle.spmd_model.specs.Ordered.{IsSound}
 use Rattle.spmd_model.specs.Lawful.{acts_in_front}
 use Rattle.spmd_model.specs.Reached.{CanGo, HasCome}

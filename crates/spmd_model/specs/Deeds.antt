@@ -11,7 +11,8 @@ use Rattle.owner_partition.specs.Owners.{own_instances}
 use Rattle.sync_plan.specs.declared.plan.Plan.{Plan}
 use Rattle.sync_plan.specs.Waits.{posts_at, waits_for}
 use Rattle.spmd_model.specs.Cells.{plus}
-use Rattle.spmd_model.specs.Timelines.{Act, post, await, load, store, add, print, Job, Machine, Moment, Word, boundary, counter, job}
+use Rattle.spmd_model.specs.Timelines.{Job, Machine, Moment, Word, boundary, counter, job}
+use Rattle.spmd_model.specs.Acts.{Act, post, await, load, store, add, print}
 use Rattle.spmd_model.specs.States.{State, assigned_by, line_by, registers_of, with_words, words_of}
 
 -- the same six kinds, a store with what it stores, an addition with what it adds and a PRINT with its line, from what the loads gave

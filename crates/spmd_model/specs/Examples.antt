@@ -1,8 +1,9 @@
 -- Worked rows: runs of two processors in two phases over an array of two elements, sums by own cells, and a barrier by signals among three.
 use Rattle.std.specs.Prelude.{ℕ, ◌+◌, ◌≡◌, ◌==◌, ℤ, pos, Bool, true, false, List, [], ◌∷◌, ◌++◌, Some, if◌then◌else◌, refl, slice_index_or}
 use Rattle.std.specs.Int.{int_wrap}
-use Rattle.spmd_model.specs.Timelines.{post, await, load, store, add, Job, Machine, Moment, boundary, counter, job, acts_of}
-use Rattle.spmd_model.specs.States.{run_of}
+use Rattle.spmd_model.specs.Timelines.{Job, Machine, Moment, boundary, counter, job}
+use Rattle.spmd_model.specs.Acts.{post, await, load, store, add, acts_of}
+use Rattle.spmd_model.specs.Runs.{run_of}
 use Rattle.spmd_model.specs.Sequential.{memory_at_end}
 use Rattle.spmd_model.specs.Lawful.{counter_at, last_value}
 use Rattle.spmd_model.specs.Rounds.{round_boundary}

@@ -3,7 +3,8 @@ use Rattle.std.specs.Prelude.{ℕ, ◌-◌, ◌≡◌, ◌≤◌, ◌<◌, ◌++
 use Rattle.std.specs.List.{range_with_len}
 use Rattle.spmd_model.specs.Reached.{processors}
 use Rattle.spmd_model.specs.States.{State, is_possible, next_act}
-use Rattle.spmd_model.specs.Timelines.{Act, Machine, acts_of}
+use Rattle.spmd_model.specs.Timelines.{Machine}
+use Rattle.spmd_model.specs.Acts.{Act, acts_of}
 
 -- processor p has a next act, and it is possible
 abbrev pub can_go : State → Option Act → Bool

@@ -3,7 +3,8 @@ use Rattle.std.specs.Prelude.{ℕ, suc, ◌≡◌, ◌≢◌, ◌≤◌, ◌<◌
 use Rattle.std.specs.List.{flat_map}
 use Rattle.nest_model.specs.Memory.{cell_value}
 use Rattle.spmd_model.specs.Cells.{changed}
-use Rattle.spmd_model.specs.Timelines.{Act, post, await, load, store, add, print, Job, Machine, Moment, Word, counter, signal, boundary, job, act_at, acts_from, acts_of}
+use Rattle.spmd_model.specs.Timelines.{Job, Machine, Moment, Word, counter, signal, boundary, job}
+use Rattle.spmd_model.specs.Acts.{Act, post, await, load, store, add, print, act_at, acts_from, acts_of}
 use Rattle.spmd_model.specs.Sequential.{given_at, value_at}
 use Rattle.spmd_model.specs.States.{line_by}
 use Rattle.std.specs.Prelude.{slice_get}

@@ -2,7 +2,8 @@
 use Rattle.std.specs.Prelude.{◌^◌, true, false, ℕ, ◌+◌, ◌≡◌, ◌≢◌, ◌≤◌, ◌<◌, ◌⊎◌, ℤ, pos, List, [], ◌∷◌, ◌++◌, Some, length, replicate, slice_set}
 use Rattle.nest_model.specs.Memory.{cell_value}
 use Rattle.spmd_model.specs.Cells.{plus}
-use Rattle.spmd_model.specs.Timelines.{Act, Word, counter, post, await, load, store, add, print}
+use Rattle.spmd_model.specs.Timelines.{Word, counter}
+use Rattle.spmd_model.specs.Acts.{Act, post, await, load, store, add, print}
 use Rattle.spmd_model.specs.Lawful.{IsPosted, Moves}
 use Rattle.spmd_model.specs.Quiet.{is_quiet}
 use Rattle.spmd_model.specs.Protocols.{Protocol, act_at, arrivals_at, is_arrival, is_gathered, is_print, settled, shown_at}

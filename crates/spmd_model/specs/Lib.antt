@@ -1,6 +1,8 @@
 pub mod Cells
 pub mod Timelines
+pub mod Acts
 pub mod States
+pub mod Runs
 pub mod Sequential
 pub mod Ordered
 pub mod Lawful

@@ -5,7 +5,7 @@ use Rattle.nest_tree.specs.Tree.{Tree}
 use Rattle.nest_model.specs.Memory.{last_memory, output_of}
 use Rattle.sync_plan.specs.Boundaries.{gathers}
 use Rattle.sync_plan.specs.declared.plan.Plan.{Plan}
-use Rattle.spmd_model.specs.Timelines.{Act, acts_of}
+use Rattle.spmd_model.specs.Acts.{Act, acts_of}
 use Rattle.spmd_model.specs.Sequential.{loaded_at, registers_at, stored_at}
 use Rattle.spmd_model.specs.Lawful.{printed_at}
 use Rattle.spmd_model.specs.Shared.{AreLawful}

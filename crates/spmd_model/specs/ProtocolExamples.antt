@@ -1,6 +1,7 @@
 -- Worked rows of what words show, of arrivals, and of the acts that nobody else sees, where two cells are shared and the number 1 is gathered.
 use Rattle.std.specs.Prelude.{◌≡◌, ◌==◌, List, [], ◌∷◌, fold, refl}
-use Rattle.spmd_model.specs.Timelines.{Act, post, await, load, store, add, print, counter, signal}
+use Rattle.spmd_model.specs.Timelines.{counter, signal}
+use Rattle.spmd_model.specs.Acts.{Act, post, await, load, store, add, print}
 use Rattle.spmd_model.specs.Protocols.{arrived, settled, shown}
 
 abbrev acts : List Act

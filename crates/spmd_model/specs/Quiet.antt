@@ -1,8 +1,10 @@
 -- Quiet acts, which touch only cells that are one processor's own, and turns: one act and then the quiet ones that stand next.
 use Rattle.std.specs.Prelude.{ℕ, suc, Bool, false, nat_le, List, [], ◌∷◌, drop, fold, replicate, slice_index, if◌then◌else◌}
 use Rattle.std.specs.List.{range_with_len}
-use Rattle.spmd_model.specs.Timelines.{Act, post, await, load, store, add, print, Machine, acts_of}
-use Rattle.spmd_model.specs.States.{State, first_state, stepped}
+use Rattle.spmd_model.specs.Timelines.{Machine}
+use Rattle.spmd_model.specs.Acts.{Act, post, await, load, store, add, print, acts_of}
+use Rattle.spmd_model.specs.States.{State, first_state}
+use Rattle.spmd_model.specs.Runs.{stepped}
 
 -- of so many cells that all share
 abbrev pub is_quiet : ℕ → Act → Bool

@@ -3,7 +3,8 @@ use Rattle.std.specs.Prelude.{ℕ, ◌≡◌, ◌≤◌, ◌<◌, ◌⊎◌, ℤ
 use Rattle.std.specs.List.{range_with_len}
 use Rattle.nest_model.specs.Memory.{cell_value}
 use Rattle.spmd_model.specs.Cells.{plus}
-use Rattle.spmd_model.specs.Timelines.{Act, post, await, load, store, add, print, Machine, Word, counter, signal, acts_of}
+use Rattle.spmd_model.specs.Timelines.{Machine, Word, counter, signal}
+use Rattle.spmd_model.specs.Acts.{Act, post, await, load, store, add, print, acts_of}
 use Rattle.spmd_model.specs.States.{State, is_possible, next_act, registers_of, words_of}
 use Rattle.spmd_model.specs.Sequential.{registers_at}
 use Rattle.spmd_model.specs.Lawful.{IsLawful, IsPosted, counter_at, printed_at}

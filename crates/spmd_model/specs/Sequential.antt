@@ -2,7 +2,8 @@
 use Rattle.std.specs.Prelude.{ℕ, ℤ, pos, List, [], ◌∷◌, ◌++◌, Option, Some, None, fold, map, replicate, slice_get, take}
 use Rattle.nest_model.specs.Memory.{cell_value}
 use Rattle.spmd_model.specs.Cells.{with_change}
-use Rattle.spmd_model.specs.Timelines.{Act, post, await, load, store, add, print, Job, Machine, Moment, boundary, job, act_at, acts_of}
+use Rattle.spmd_model.specs.Timelines.{Job, Machine, Moment, boundary, job}
+use Rattle.spmd_model.specs.Acts.{Act, post, await, load, store, add, print, act_at, acts_of}
 use Rattle.spmd_model.specs.States.{assigned_by}
 
 -- memory behind a moment

@@ -1,8 +1,9 @@
--- The states of a machine, one step of one processor, and the run of a schedule.
-use Rattle.std.specs.Prelude.{ℕ, ◌+◌, ◌≡◌, ◌<◌, ℤ, pos, Bool, true, nat_le, List, [], ◌∷◌, ◌++◌, Option, Some, None, length, fold, replicate, slice_get, slice_index, slice_index_or, slice_set, if◌then◌else◌}
+-- The states of a machine.
+use Rattle.std.specs.Prelude.{ℕ, ◌+◌, ℤ, pos, Bool, true, nat_le, List, [], ◌∷◌, ◌++◌, Option, Some, None, replicate, slice_get, slice_index, slice_index_or, slice_set}
 use Rattle.nest_model.specs.Memory.{cell_value}
 use Rattle.spmd_model.specs.Cells.{plus}
-use Rattle.spmd_model.specs.Timelines.{Act, post, await, load, store, add, print, Machine, Moment, Word, counter, signal, boundary, job, act_at, acts_of}
+use Rattle.spmd_model.specs.Timelines.{Machine, Moment, Word, counter, signal, boundary, job}
+use Rattle.spmd_model.specs.Acts.{Act, post, await, load, store, add, print, act_at}
 
 -- per processor how many of its acts are done, what its loads gave since its last store or PRINT, its counter and its signal; one memory; one output
 pub record State : Type 0 where
@@ -75,19 +76,3 @@ acted m s p (store place cell) =
 acted m s p (add place cell) =
     record s { registers = slice_set s.registers p []; memory = slice_set s.memory cell (plus (cell_value s.memory cell) (assigned_by (slice_get m.timeline place) (registers_of s p))) }
 acted m s p (print place) = record s { registers = slice_set s.registers p []; output = s.output ++ line_by (slice_get m.timeline place) (registers_of s p) }
-
--- the state behind a step of p: nothing changes where it has no act or its act isn't possible
-abbrev pub stepped_by : Machine → State → ℕ → Option Act → State
-stepped_by m s p None = s
-stepped_by m s p (Some act) = if is_possible s act then moved (acted m s p act) p else s
-
-abbrev pub stepped : Machine → State → ℕ → State
-stepped m s p = stepped_by m s p (next_act m s p)
-
--- the state behind a schedule, a list of processor numbers
-abbrev pub run_of : Machine → List ℕ → State
-run_of m schedule = fold (stepped m) (first_state m) schedule
-
--- each processor has done all its acts
-abbrev pub IsEnded : Machine → State → Type 0
-IsEnded m s = (p : ℕ) → p < m.workers → slice_index s.positions p ≡ length (acts_of m p)

@@ -32,8 +32,10 @@ ghost use Rattle.spmd_model.specs.declared.style.Style.TheVariants.{Arrive};
 ghost use Rattle.nest_model.specs.Ranges.{IsInRange};
 ghost use Rattle.nest_model.specs.Visits.{Visit};
 ghost use Rattle.spmd_model.specs.Sequential.{memory_at_end, memory_at, stored_at, value_at, whole_output};
-ghost use Rattle.spmd_model.specs.States.{IsEnded, State, acted, first_state, is_possible, next_act, run_of, stepped};
-ghost use Rattle.spmd_model.specs.Timelines.{Act, Job, Machine, act_at, acts_of, add, job, load, store};
+ghost use Rattle.spmd_model.specs.States.{State, acted, first_state, is_possible, next_act};
+ghost use Rattle.spmd_model.specs.Runs.{IsEnded, run_of, stepped};
+ghost use Rattle.spmd_model.specs.Timelines.{Job, Machine, job};
+ghost use Rattle.spmd_model.specs.Acts.{Act, act_at, acts_of, add, load, store};
 
 /// A state of a run, in whatever order its processors went, is never stuck before its end: it is
 /// ended, or the next act of some processor is possible.

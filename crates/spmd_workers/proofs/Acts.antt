@@ -6,7 +6,8 @@ use Rattle.nest_tree.specs.Layout.{cell_count}
 use Rattle.spmd_model.specs.Deeds.{deed_of, posting, awaiting, loading, storing, adding, printing}
 use Rattle.spmd_model.specs.Machines.{machine_by}
 use Rattle.spmd_model.specs.Timelines as Timelines
-use Rattle.spmd_model.specs.Timelines.{Act, Word, post, await, load, store, add, print}
+use Rattle.spmd_model.specs.Timelines.{Word}
+use Rattle.spmd_model.specs.Acts.{Act, post, await, load, store, add, print}
 use Rattle.spmd_model.specs.Protocols.{act_at, is_passed, passed_first, settled}
 use Rattle.spmd_model.proofs.Deeds.{await_is}
 use Rattle.instance_runs.proofs.LoadPlaces.{drop_there}

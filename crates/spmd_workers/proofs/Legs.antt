@@ -4,7 +4,8 @@ use Rattle.std.specs.List.{list_all}
 use Rattle.std.proofs.lemmas.Bool.{cases_Bool, eqb-true}
 use Rattle.nest_tree.specs.Layout.{cell_count}
 use Rattle.sync_plan.specs.Boundaries.{joins}
-use Rattle.spmd_model.specs.Timelines.{counter, post}
+use Rattle.spmd_model.specs.Timelines.{counter}
+use Rattle.spmd_model.specs.Acts.{post}
 use Rattle.spmd_model.specs.Protocols.{act_at, passed_first}
 use Rattle.instance_runs.specs.Executors.{executor_output, executor_room}
 use Rattle.turns.specs.Turns.{Turn, turn_room}

@@ -5,7 +5,8 @@ use Rattle.std.proofs.lemmas.Bool.{cases_Bool, cases_eq, eq-eqb, eqb-true}
 use Rattle.std.proofs.lemmas.List.{ext_get_or, get_or-set_other, get_or-set_same}
 use Rattle.std.proofs.lemmas.List.FromFn.{get_or-map-range_with_len, length-map-range_with_len}
 use Rattle.nest_tree.specs.Layout.{cell_count}
-use Rattle.spmd_model.specs.Timelines.{Act, Word, post, await, load, store, add, print}
+use Rattle.spmd_model.specs.Timelines.{Word}
+use Rattle.spmd_model.specs.Acts.{Act, post, await, load, store, add, print}
 use Rattle.spmd_model.specs.Protocols.{act_at, held_at, held_by}
 use Rattle.spmd_model.proofs.OwnRuns.{same_values}
 use Rattle.shared_words.specs.Homes.{Home, protocol_at}

@@ -13,7 +13,8 @@ use Rattle.sync_plan.specs.declared.plan.Plan.{Plan}
 use Rattle.sync_plan.specs.Waits.{posts_at, waits_for}
 use Rattle.spmd_model.specs.Deeds.{Deed, awaiting, deed_of, owned_by}
 use Rattle.spmd_model.specs.Machines.{machine_by}
-use Rattle.spmd_model.specs.Timelines.{Act, add, await, counter, load, post, print, signal, store}
+use Rattle.spmd_model.specs.Timelines.{counter, signal}
+use Rattle.spmd_model.specs.Acts.{Act, add, await, load, post, print, store}
 use Rattle.spmd_model.proofs.Lists.{take-more}
 use Rattle.spmd_model.specs.Protocols.{act_at, arrivals_at, arrived, is_gathered}
 use Rattle.spmd_model.specs.Viewed.{barriers_in_front}

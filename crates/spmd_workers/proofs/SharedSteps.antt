@@ -8,7 +8,8 @@ use Rattle.std.proofs.lemmas.Bool.{and_from, and_parts, cases_Bool, eqb-true, eq
 use Rattle.std.proofs.lemmas.Option.{slice_get_within}
 use Rattle.nest_tree.specs.Layout.{cell_count}
 use Rattle.spmd_model.specs.Deeds.{Deed, adding, loading, posting, storing, printing}
-use Rattle.spmd_model.specs.Timelines.{add, load, signal, store, print}
+use Rattle.spmd_model.specs.Timelines.{signal}
+use Rattle.spmd_model.specs.Acts.{add, load, store, print}
 use Rattle.spmd_model.specs.Protocols.{act_at}
 use Rattle.turns.proofs.CounterLists.{drop_at}
 use Rattle.turns.specs.declared.turns.Turns.{Turns}

@@ -9,7 +9,8 @@ use Rattle.sync_plan.specs.declared.plan.Kind.TheVariants.{Nothing, Producer, Le
 use Rattle.sync_plan.specs.declared.plan.Kind.TheVariants as kinds
 use Rattle.sync_plan.specs.Boundaries.{is_barrier, is_join, joins, kind_before}
 use Rattle.spmd_model.specs.Deeds.{awaiting, posting}
-use Rattle.spmd_model.specs.Timelines.{Act, Word, await, counter, post, signal}
+use Rattle.spmd_model.specs.Timelines.{Word, counter, signal}
+use Rattle.spmd_model.specs.Acts.{Act, await, post}
 use Rattle.spmd_model.specs.Protocols.{act_at, is_passed, passed_first, settled}
 use Rattle.spmd_model.proofs.ProtocolLists.{get_drop}
 use Rattle.instance_runs.specs.Executors.{CanExecute, executor_output, executor_room, executor_tree}

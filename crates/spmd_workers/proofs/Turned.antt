@@ -7,7 +7,8 @@ use Rattle.std.proofs.lemmas.Option.{slice_get_within, slice_get-get_or}
 use Rattle.nest_tree.specs.Layout.{cell_count}
 use Rattle.spmd_model.specs.Deeds.{Deed, deed_of, awaiting, last_deed, adding, loading, posting, printing, storing}
 use Rattle.spmd_model.specs.Machines.{machine_by}
-use Rattle.spmd_model.specs.Timelines.{counter, post}
+use Rattle.spmd_model.specs.Timelines.{counter}
+use Rattle.spmd_model.specs.Acts.{post}
 use Rattle.spmd_model.specs.Protocols.{act_at}
 use Rattle.spmd_model.proofs.ProtocolLists.{get_drop}
 use Rattle.instance_runs.specs.Executors.{CanExecute, executor_output, executor_room, executor_tree}

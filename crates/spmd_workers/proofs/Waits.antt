@@ -2,7 +2,8 @@
 use Rattle.std.proofs.Common.{◌≡◌, ◌==◌, ℕ, suc, ◌+◌, ◌-◌, ◌*◌, ◌<◌, ◌≤◌, true, List, [], ◌∷◌, length, Some, sym, ◌∙◌, ap, subst, inr, arith, if◌then◌else◌}
 use Rattle.std.proofs.lemmas.Bool.{eq-eqb}
 use Rattle.sync_plan.specs.Boundaries.{joins}
-use Rattle.spmd_model.specs.Timelines.{Word, counter, post}
+use Rattle.spmd_model.specs.Timelines.{Word, counter}
+use Rattle.spmd_model.specs.Acts.{post}
 use Rattle.spmd_model.specs.Protocols.{act_at, arrivals_at}
 use Rattle.instance_runs.specs.Executors.{CanExecute, executor_output, executor_room, executor_tree}
 use Rattle.turns.specs.Turns.{Turn, sets, waits}

@@ -4,7 +4,8 @@ use Rattle.nest_tree.specs.Layout.{cell_count}
 use Rattle.sync_plan.specs.Boundaries.{gathers}
 use Rattle.spmd_model.specs.Deeds.{Deed, adding, deed_of, printing, storing}
 use Rattle.spmd_model.specs.Machines.{machine_by}
-use Rattle.spmd_model.specs.Timelines.{Act, await, counter, load}
+use Rattle.spmd_model.specs.Timelines.{counter}
+use Rattle.spmd_model.specs.Acts.{Act, await, load}
 use Rattle.spmd_model.specs.Laws.{Laws}
 use Rattle.spmd_model.specs.Protocols.{act_at, arrivals_at, held_at}
 use Rattle.spmd_model.specs.Viewed.{barriers_in_front}

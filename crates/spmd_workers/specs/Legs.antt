@@ -1,7 +1,8 @@
 -- What a leg of a worker does to its seat.
 use Rattle.std.specs.Prelude.{ℕ, suc, ◌+◌, ◌-◌, ◌==◌, ◌≡◌, ◌≤◌, ◌<◌, ◌⊎◌, true, Some, if◌then◌else◌}
 use Rattle.sync_plan.specs.Boundaries.{joins}
-use Rattle.spmd_model.specs.Timelines.{await, counter, post}
+use Rattle.spmd_model.specs.Timelines.{counter}
+use Rattle.spmd_model.specs.Acts.{await, post}
 use Rattle.spmd_model.specs.Protocols.{act_at}
 use Rattle.shared_words.specs.Calls.{AwaitsNext, AwaitsSignalNext, GathersNext, StandsInVain, all_arrivals}
 use Rattle.shared_words.specs.Homes.{CellView, next_act, protocol_at}

@@ -31,7 +31,8 @@ use Rattle.spmd_model.specs.Machines.{machine_by}
 use Rattle.spmd_model.specs.MachineDeeds.{deeds_by}
 use Rattle.spmd_model.proofs.Deeds.{anchored}
 use Rattle.spmd_model.proofs.MachineDeeds.{acts_do}
-use Rattle.spmd_model.specs.Timelines.{acts_of, counter}
+use Rattle.spmd_model.specs.Timelines.{counter}
+use Rattle.spmd_model.specs.Acts.{acts_of}
 use Rattle.spmd_model.specs.declared.style.Style.TheVariants.{Arrive}
 use Rattle.spmd_model.proofs.LastStores.{last_among, split_at, stores_first}
 use Rattle.spmd_model.proofs.OwnTexts.{own_in_phase, private_is}

@@ -7,8 +7,10 @@ use Rattle.std.proofs.lemmas.List.{length-map}
 use Rattle.std.proofs.lemmas.Option.{slice_get-map}
 use Rattle.std.proofs.lemmas.List.Elements.{All-cons, All-head, All-nil, All-tail}
 use Rattle.spmd_model.specs.Deeds.{Deed, can_do, deed_of}
-use Rattle.spmd_model.specs.States.{IsEnded, State, next_act, first_state, moved, run_of, stepped, stepped_by}
-use Rattle.spmd_model.specs.Timelines.{Act, Machine, acts_of}
+use Rattle.spmd_model.specs.States.{State, next_act, first_state, moved}
+use Rattle.spmd_model.specs.Runs.{IsEnded, run_of, stepped, stepped_by}
+use Rattle.spmd_model.specs.Timelines.{Machine}
+use Rattle.spmd_model.specs.Acts.{Act, acts_of}
 use Rattle.spmd_model.proofs.Deeds.{acted_is, possible_is}
 use Rattle.spmd_model.specs.Fair.{IsFair, first_of}
 use Rattle.spmd_model.specs.Reached.{CanGo}

@@ -22,7 +22,8 @@ use Rattle.own_cells.specs.OwnCells.{place_assigned}
 use Rattle.spmd_model.specs.Deeds.{posting, awaiting, deed_of, owned_by}
 use Rattle.spmd_model.specs.Machines.{machine_by}
 use Rattle.spmd_model.specs.MachineDeeds.{closing_deeds, deeds_by, own_deeds}
-use Rattle.spmd_model.specs.Timelines.{acts_of, counter}
+use Rattle.spmd_model.specs.Timelines.{counter}
+use Rattle.spmd_model.specs.Acts.{acts_of}
 use Rattle.spmd_model.specs.declared.style.Style.{Style}
 use Rattle.spmd_model.specs.declared.style.Style.TheVariants.{Arrive}
 use Rattle.spmd_model.proofs.NoOwnDeeds.{plain_deeds, same_deeds}

@@ -11,7 +11,7 @@ ghost use Rattle.sync_plan.specs.Fit.{IsFit};
 ghost use Rattle.sync_plan.specs.declared.plan.Plan.{Plan};
 ghost use Rattle.spmd_model.specs.Deeds.{deed_of};
 ghost use Rattle.spmd_model.specs.Machines.{machine_by};
-ghost use Rattle.spmd_model.specs.Timelines.{acts_of};
+ghost use Rattle.spmd_model.specs.Acts.{acts_of};
 ghost use Rattle.spmd_model.specs.declared.style.Style.{Style};
 ghost use Rattle.turns.specs.CounterTurns.{counter_turns};
 ghost use Rattle.turns.specs.Turns.{first_standing, turns_by, turn_deeds};

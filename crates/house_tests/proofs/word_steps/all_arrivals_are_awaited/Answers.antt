@@ -7,7 +7,8 @@ use Rattle.nest_model.specs.Ranges.{IsInRange}
 use Rattle.sync_plan.specs.Fit.{IsFit}
 use Rattle.sync_plan.specs.Ordered.{IsOrdered}
 use Rattle.sync_plan.specs.declared.plan.Plan.{Plan}
-use Rattle.spmd_model.specs.Timelines.{counter, post, await}
+use Rattle.spmd_model.specs.Timelines.{counter}
+use Rattle.spmd_model.specs.Acts.{post, await}
 use Rattle.spmd_model.specs.Protocols.{act_at}
 use Rattle.shared_words.specs.Calls.{ArrivesNext, GathersNext, with_stage}
 use Rattle.shared_words.specs.Homes.{CellView, MainView, gone}

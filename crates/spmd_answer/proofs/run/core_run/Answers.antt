@@ -4,7 +4,7 @@ use Rattle.nest_tree.specs.View.{tree_of}
 use Rattle.nest_model.specs.Memory.{last_memory, output_of}
 use Rattle.sync_plan.specs.Ordered.{IsOrdered}
 use Rattle.sync_plan.specs.declared.plan.Plan.{Plan}
-use Rattle.spmd_model.specs.States.{IsEnded}
+use Rattle.spmd_model.specs.Runs.{IsEnded}
 use Rattle.spmd_model.specs.Machines.{machine_by}
 use Rattle.spmd_model.specs.Timelines.{Machine}
 use Rattle.spmd_machine.specs.Machines.{model_of, plan_in, shown, tree_in}

@@ -1,5 +1,5 @@
 use Rattle.spmd_model.specs.Reached.{positions_of}
-use Rattle.spmd_model.specs.States.{run_of}
+use Rattle.spmd_model.specs.Runs.{run_of}
 use Rattle.spmd_model.proofs.ActLaws.{gives}
 use Rattle.spmd_model.proofs.Runs.{sequential_run}
 use Rattle.spmd_model.proofs.laws.every_load_is_sequential.Goals as goal

@@ -1,4 +1,4 @@
-use Rattle.spmd_model.specs.States.{run_of}
+use Rattle.spmd_model.specs.Runs.{run_of}
 use Rattle.spmd_model.proofs.Runs.{come_run}
 use Rattle.spmd_model.proofs.Unstuck.{ended_or_goes}
 use Rattle.spmd_model.proofs.laws.no_state_is_stuck.Goals as goal

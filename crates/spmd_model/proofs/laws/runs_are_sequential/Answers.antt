@@ -1,4 +1,4 @@
-use Rattle.spmd_model.specs.States.{run_of}
+use Rattle.spmd_model.specs.Runs.{run_of}
 use Rattle.spmd_model.proofs.Ends.{ended_memory, ended_output, output_front}
 use Rattle.spmd_model.proofs.Runs.{sequential_run}
 use Rattle.spmd_model.proofs.laws.runs_are_sequential.Goals as goal

@@ -5,7 +5,7 @@ use Rattle.owner_partition.specs.Phases.{phases}
 use Rattle.spmd_model.specs.Deeds.{Deed, deed_of}
 use Rattle.spmd_model.specs.Machines.{machine_by}
 use Rattle.spmd_model.specs.MachineDeeds.{deeds_by}
-use Rattle.spmd_model.specs.Timelines.{acts_of}
+use Rattle.spmd_model.specs.Acts.{acts_of}
 use Rattle.spmd_model.proofs.MachineDeeds.{acts_do}
 use Rattle.spmd_model.specs.PlanProtocols.{acts_by}
 use Rattle.spmd_workers.specs.Places.{deeds_at, plan_at, style_at, tree_at}

@@ -1,5 +1,5 @@
 use Rattle.std.proofs.Common.{List, ℕ, sym, ◌∙◌, ap, subst, arith}
-use Rattle.spmd_model.specs.Timelines.{add}
+use Rattle.spmd_model.specs.Acts.{add}
 use Rattle.shared_words.specs.declared.view.View.{View}
 use Rattle.shared_words.specs.Words.{word_count}
 use Rattle.shared_words.specs.Homes.{IsSeatOf, misses_of, position_of, role_in, seen_of}

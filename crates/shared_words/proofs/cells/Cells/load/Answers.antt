@@ -1,5 +1,5 @@
 use Rattle.std.proofs.Common.{List, ℕ, ◌<◌, sym, ◌∙◌, ap, subst, arith}
-use Rattle.spmd_model.specs.Timelines.{load}
+use Rattle.spmd_model.specs.Acts.{load}
 use Rattle.shared_words.specs.declared.view.View.{View}
 use Rattle.shared_words.specs.Words.{word_count}
 use Rattle.shared_words.specs.Runs.{IsRunnable}

@@ -1,5 +1,6 @@
 use Rattle.std.proofs.Common.{List, ℕ, sym, ◌∙◌, ap, subst, arith}
-use Rattle.spmd_model.specs.Timelines.{counter, await}
+use Rattle.spmd_model.specs.Timelines.{counter}
+use Rattle.spmd_model.specs.Acts.{await}
 use Rattle.shared_words.specs.declared.view.View.{View}
 use Rattle.shared_words.specs.Words.{word_count, word_of}
 use Rattle.shared_words.specs.Homes.{IsSeatOf, cell_view, gone, protocol_at, misses_of, position_of, role_in, seen_of}

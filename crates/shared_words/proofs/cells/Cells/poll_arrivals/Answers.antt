@@ -1,5 +1,6 @@
 use Rattle.std.proofs.Common.{List, ℕ, ◌-◌, ◌*◌, sym, ◌∙◌, ap, subst, arith}
-use Rattle.spmd_model.specs.Timelines.{counter, await}
+use Rattle.spmd_model.specs.Timelines.{counter}
+use Rattle.spmd_model.specs.Acts.{await}
 use Rattle.shared_words.specs.declared.view.View.{View}
 use Rattle.shared_words.specs.Words.{word_count, arrival_word}
 use Rattle.shared_words.specs.Homes.{Home, IsSeatOf, cell_view, misses_of, plan_given, position_of, protocol_at, role_in, seen_of, style_given, through, tree_given}

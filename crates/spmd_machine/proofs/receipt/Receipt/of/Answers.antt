@@ -4,7 +4,8 @@ use Rattle.std.proofs.lemmas.List.{take_at}
 use Rattle.nest_tree.specs.View.{tree_of}
 use Rattle.nest_tree.specs.declared.tree.Program.{Program}
 use Rattle.sync_plan.specs.declared.plan.Plan.{Plan}
-use Rattle.spmd_model.specs.States.{IsEnded, State}
+use Rattle.spmd_model.specs.States.{State}
+use Rattle.spmd_model.specs.Runs.{IsEnded}
 use Rattle.spmd_machine.specs.Ends.{HasRun}
 use Rattle.spmd_machine.specs.Machines.{IsMachine, model_of, plan_in, shared_in, shown, style_in, tree_in}
 use Rattle.spmd_machine.specs.declared.machine.Machine.{Machine}
