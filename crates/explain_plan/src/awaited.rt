@@ -10,14 +10,9 @@ use sync_plan::Kind;
 impl Page<'_> {
     /// Whom a wait of this kind is for.
     pub(crate) fn push_awaited(&self, text: &mut Vec<u8>, kind: &Kind) -> Result<(), AllocError> {
-        match kind {
-            Kind::Nothing => push_words(text, b"nobody"),
-            Kind::Producer(anchor) => self.push_owner(text, anchor),
-            Kind::Left => push_words(text, b"its left neighbour"),
-            Kind::Right => push_words(text, b"its right neighbour"),
-            Kind::Both => push_words(text, b"both neighbours"),
-            Kind::Barrier => push_words(text, b"all others"),
-            Kind::Join => push_words(text, b"all others, and is forked again"),
+        match kind.anchor() {
+            Some(anchor) => self.push_owner(text, anchor),
+            None => push_words(text, kind.whom().as_bytes()),
         }
     }
 

@@ -101,6 +101,19 @@ impl Kind {
         }
     }
 
+    /// Whom a processor waits for, in words for a reader: no clause says which.
+    pub fn whom(&self) -> &'static str {
+        match self {
+            Kind::Nothing => "nobody",
+            Kind::Producer(_) => "the owner of a place",
+            Kind::Left => "its left neighbour",
+            Kind::Right => "its right neighbour",
+            Kind::Both => "both neighbours",
+            Kind::Barrier => "all others",
+            Kind::Join => "all others, and is forked again",
+        }
+    }
+
     /// What the kinds are called, from the weakest on.
     pub fn words() -> [&'static str; 7]
         ensures { map (λ w. w.now) result ≡ all_words }
