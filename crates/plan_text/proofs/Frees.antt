@@ -13,7 +13,7 @@ use Rattle.plan_text.specs.declared.syntax.PlanSyntax.TheVariants.{Line, NoMemor
 use Rattle.plan_text.specs.Loose.{loop_said, phase_said, row_said, step_said, steps_said}
 use Rattle.plan_text.specs.PlanText.{alone, cert_lines, headed, is_64, is_certificate_shown, is_loop_shown, is_phase_shown, is_row_shown, is_step_shown, numbered, text_of}
 use Rattle.plan_text.specs.Stops.{AreItems, ItemsRead, RefusesLine, RefusesPart}
-use Rattle.plan_text.specs.Words.{cert_line, line_of, loop_line, mark_word, phase_line, private_words, row_line, spaced, step_line}
+use Rattle.plan_text.specs.Words.{anchor_words, cert_line, kind_words, line_of, loop_line, mark_word, phase_line, private_words, row_line, spaced, step_line}
 use Rattle.plan_text.proofs.Counting.{items-free}
 use Rattle.plan_text.proofs.Items.{one_line}
 use Rattle.plan_text.proofs.LineLaws.{line_free, loop-law, phase-law, row-law, step-law, steps-law}
@@ -30,7 +30,7 @@ pub loops-free : (v : Version) (k : ℕ) → IsFree (alone loop_line k) (λ l. i
 loops-free v = alone-free loop_line (is_loop_shown v) (λ k x y h h' e. line_free (loop_line 0) (is_loop_shown v) loop_said (loop-law v 0 (omega arith)) x y h h' (renumbered k (mark_word x.0 ∷ private_words x.1) (mark_word y.0 ∷ private_words y.1) e))
 
 pub phases-free : (k : ℕ) → IsFree (alone phase_line k) (λ p. is_phase_shown p ≡ true)
-phases-free = alone-free phase_line is_phase_shown (λ k x y h h' e. line_free (phase_line 0) is_phase_shown phase_said (phase-law 0 (omega arith)) x y h h' (renumbered k _ _ e))
+phases-free = alone-free phase_line is_phase_shown (λ k x y h h' e. line_free (phase_line 0) is_phase_shown phase_said (phase-law 0 (omega arith)) x y h h' (renumbered k (kind_words x.0 ++ (codes "AT" ∷ anchor_words x.1)) (kind_words y.0 ++ (codes "AT" ∷ anchor_words y.1)) e))
 
 pub rows-free : (k : ℕ) → IsFree (alone row_line k) (λ r. is_row_shown r ≡ true)
 rows-free = alone-free row_line is_row_shown (λ k x y h h' e. line_free (row_line 0) is_row_shown row_said (row-law 0 (omega arith)) x y h h' (renumbered k _ _ e))

@@ -1,11 +1,11 @@
-use Rattle.std.proofs.Common.{None, ◌≡◌, ◌++◌, ◌<◌, ◌^◌, sym, ap, ◌∙◌, drop, map, List, ℕ, arith}
+use Rattle.std.proofs.Common.{rules, None, ◌≡◌, ◌++◌, ◌<◌, ◌^◌, sym, ap, ◌∙◌, drop, map, List, ℕ, arith}
 use denote.Ref.{Bor}
 use Rattle.owner_partition.specs.declared.anchor.Anchor.{Anchor}
 use Rattle.sync_plan.specs.declared.plan.Kind.{Kind}
 use Rattle.plan_text.specs.Loose.{phase_of, phase_said, words_of}
 use Rattle.plan_text.specs.PlanText.{is_phase_shown}
 use Rattle.plan_text.specs.Words.{phase_line}
-use Rattle.plan_text.proofs.LineLaws.{phase-law, refuse, refuse_unsaid}
+use Rattle.plan_text.proofs.LineLaws.{no_line, phase-law, refuse, refuse_unsaid}
 use Rattle.plan_text.proofs.Said.{shown-phase}
 use Rattle.plan_text.proofs.item.read_phase.Goals as goal
 
@@ -36,3 +36,8 @@ returns-clause-refused c =
     c.refusal-else-is_same.ensures c.in_ok-line.ensures.taken c.in_ok-line.ensures.whole c.in_ok-line.ensures.cut says
     (c.deref-2.ensures.value ∙ c.in_ok-put_phase.ensures ∙ ap (λ b. b ++ phase_line number phase) c.in_ok-written.ensures.items)
     (c.is_same.ensures.differs c.if-is_same.false)
+
+pub returns-in_err-line-clause-refused : goal.returns-in_err-line-clause-refused
+returns-in_err-line-clause-refused c =
+    let alien = no_line (phase_line c.args.number) is_phase_shown c.args.lines.now.rest.now in
+    search (rules, alien)
