@@ -1,6 +1,6 @@
 // Whether a plan fits a program.
 
-ghost use Rattle.std.specs.Prelude.{◌≡◌, None};
+ghost use Rattle.std.specs.Prelude.{◌≡◌, ◌<◌, ◌^◌, None, length};
 ghost use Rattle.std.specs.Result.{result_err};
 ghost use Rattle.nest_tree.specs.Limits.{IsWithinLimits};
 ghost use Rattle.nest_tree.specs.View.{tree_of};
@@ -33,6 +33,8 @@ pub(crate) fn check_shaped(program: &Program, plan: &Plan) -> Result<(), PlanRef
     requires formed { IsWellFormed (tree_of program.now) }
     requires limits { IsWithinLimits (tree_of program.now) }
     requires shape { wrong_field (tree_of program.now) plan.now ≡ None }
+    requires anchors { length plan.now.anchors < 2 ^ 32 }
+    requires kinds { length plan.now.kinds < 2 ^ 32 }
     ensures { result_err result ≡ first_refusal (tree_of program.now) plan.now }
 {
     if let Err(Placement { phase, low, high }) = check_places(program, plan) {

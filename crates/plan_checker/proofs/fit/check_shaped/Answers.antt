@@ -27,7 +27,7 @@ known c =
     let plan = c.args.plan.now in
     let prints = c.in_default-misplaced_print.ensures ∙ ap (misplaced_print 1 plan.cut.marks (static_phases tree plan.cut.marks)) c.as_slice.ensures in
     ap (λ o. option_map refusal_of (as_misfit condition o)) (c.unmet.ensures ∙ ap (λ (ps : List Parameter). unmet (map (λ (p : Parameter). p.value) ps) plan.conditions) c.deref.ensures.value)
-    ∙ ap (λ vs. option_map refusal_of (as_misfit condition (unmet vs plan.conditions))) (sym (values_of_constants c.args.program.now.params.items)) ∙ last tree plan (sym c.requires.shape) c.in_default-check_places.ensures prints
+    ∙ ap (λ vs. option_map refusal_of (as_misfit condition (unmet vs plan.conditions))) (sym (values_of_constants c.args.program.now.params.items)) ∙ last tree plan (sym c.requires.shape) c.in_default.ensures prints
 
 pub returns-in-Some-unmet : goal.returns-in-Some-unmet
 returns-in-Some-unmet c = ap (λ o. option_map refusal_of (as_misfit condition o)) (sym c.in-Some-unmet.is) ∙ known (goal.at.returns-in-Some-unmet c).After-unmet
