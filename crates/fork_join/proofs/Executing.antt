@@ -14,7 +14,7 @@ use Rattle.sync_plan.specs.Own.{own_loop, own_of}
 use Rattle.sync_plan.specs.declared.plan.Plan.{Plan}
 use Rattle.own_cells.specs.OwnCells.{AreFew}
 use Rattle.spmd_model.specs.Deeds.{Deed, instance_deeds}
-use Rattle.spmd_model.specs.MachineDeeds.{HasNoOwn, own_deeds}
+use Rattle.spmd_model.specs.MachineDeeds.{own_deeds}
 use Rattle.spmd_model.specs.declared.style.Style.TheVariants.{Arrive}
 use Rattle.spmd_model.specs.PlanProtocols.{printed_by, registers_by}
 use Rattle.instance_runs.specs.Executors.{Begins, CanExecute, executor_output, executor_room, executor_tree}
@@ -28,10 +28,10 @@ use Rattle.turns.specs.declared.turns.NextOrPhase.TheVariants as Coming
 use Rattle.turns.specs.declared.turns.Next.TheVariants as Nexts
 use Rattle.fork_join.specs.Cursors.{ComesNext, IsCursor, IsSameCursor, cursor_left, cursor_turns}
 use Rattle.fork_join.specs.Joins.{all_deeds}
-use Rattle.fork_join.specs.SeenDeeds.{phase_deed, shared_deed}
+use Rattle.fork_join.specs.SeenDeeds.{phase_deed}
 use Rattle.fork_join.specs.Workers.{HasExecuted, IsCounterThere, IsWalking, Runs, turns_behind}
 use Rattle.fork_join.specs.declared.cursor.Cursor.{Cursor}
-use Rattle.fork_join.proofs.SeenDeeds.{phase_instances, plain_instances}
+use Rattle.fork_join.proofs.SeenDeeds.{phase_instances}
 use Rattle.fork_join.proofs.Shutting.{plain_left}
 use Rattle.fork_join.proofs.Turning.{tails}
 use Rattle.fork_join.proofs.Walking.{NextHere, cut_off, insides, no_work_behind, seen_exactly, theirs, went_on}
@@ -56,43 +56,22 @@ module _ (tree : Tree) (plan : Plan) (n p done : ℕ) (left : List Instance) (c 
   one_instance : (rest : List Deed) → flat_map (instance_deeds tree) (i ∷ []) ++ rest ≡ instance_deeds (executor_tree x) i ++ rest
   one_instance rest = ap (λ l. l ++ rest) (append-nil (instance_deeds tree i)) ∙ ap (λ t. instance_deeds t i ++ rest) (sym is_tree)
 
-  -- what an instance has of a deed
-  module _ (seen : Deed → Deed) (shown : map seen (flat_map (own_deeds tree (own_of tree plan place) p) (i ∷ []) ++ doing) ≡ flat_map (instance_deeds tree) (i ∷ []) ++ map seen doing) where
-    seen_is : map seen (drop done (all_deeds tree plan p)) ≡ instance_deeds (executor_tree x) i ++ map seen doing
-    seen_is = ap (map seen) one_gone ∙ shown ∙ one_instance (map seen doing)
+  -- as an instance has the deeds
+  module _ (few : AreFew tree (own_loop tree plan place)) where
+    abbrev seen : Deed → Deed
+    seen = phase_deed tree plan place p
 
-    begins_seen : Begins (executor_tree x) rounds stop (map seen (drop done (all_deeds tree plan p)))
+    seen_is : map seen (drop done (all_deeds tree plan p)) ≡ instance_deeds (executor_tree x) i ++ map seen doing
+    seen_is = ap (map seen) one_gone ∙ phase_instances tree plan place p few (i ∷ []) doing there ∙ one_instance (map seen doing)
+
+    pub begins_seen : Begins (executor_tree x) rounds stop (map seen (drop done (all_deeds tree plan p)))
     begins_seen = record { at = h.at; inside = h.inside; rest = map seen doing; is = seen_is }
 
-    left_seen : (after : ℕ) → after ≤ length (all_deeds tree plan p) → map seen (drop after (all_deeds tree plan p)) ≡ map seen doing → drop after (all_deeds tree plan p) ≡ flat_map (turn_deeds tree plan p) h.later
-    unfolding doing
+    pub left_seen : (after : ℕ) → after ≤ length (all_deeds tree plan p) → map seen (drop after (all_deeds tree plan p)) ≡ begins_seen.rest → drop after (all_deeds tree plan p) ≡ flat_map (turn_deeds tree plan p) h.later
+    unfolding doing begins_seen
     left_seen after within now =
         seen_exactly seen (all_deeds tree plan p) (flat_map (own_deeds tree (own_of tree plan place) p) (i ∷ [])) (flat_map (turn_deeds tree plan p) h.later) (instance_deeds (executor_tree x) i) done after one_gone within seen_is
         (seen_is ∙ ap (λ l. instance_deeds (executor_tree x) i ++ l) (sym now))
-
-  -- in a phase without own scalars
-  module _ (none : HasNoOwn tree plan place) where
-    plain_shown : map (shared_deed tree) (flat_map (own_deeds tree (own_of tree plan place) p) (i ∷ []) ++ doing) ≡ flat_map (instance_deeds tree) (i ∷ []) ++ map (shared_deed tree) doing
-    plain_shown = plain_instances tree plan place p (i ∷ []) doing none there
-
-    pub begins_plain : Begins (executor_tree x) rounds stop (map (shared_deed tree) (drop done (all_deeds tree plan p)))
-    begins_plain = begins_seen (shared_deed tree) plain_shown
-
-    pub left_plain : (after : ℕ) → after ≤ length (all_deeds tree plan p) → map (shared_deed tree) (drop after (all_deeds tree plan p)) ≡ begins_plain.rest → drop after (all_deeds tree plan p) ≡ flat_map (turn_deeds tree plan p) h.later
-    unfolding begins_plain begins_seen
-    left_plain after within now = left_seen (shared_deed tree) plain_shown after within now
-
-  -- in one that may have some
-  module _ (few : AreFew tree (own_loop tree plan place)) where
-    own_shown : map (phase_deed tree plan place p) (flat_map (own_deeds tree (own_of tree plan place) p) (i ∷ []) ++ doing) ≡ flat_map (instance_deeds tree) (i ∷ []) ++ map (phase_deed tree plan place p) doing
-    own_shown = phase_instances tree plan place p few (i ∷ []) doing there
-
-    pub begins_own : Begins (executor_tree x) rounds stop (map (phase_deed tree plan place p) (drop done (all_deeds tree plan p)))
-    begins_own = begins_seen (phase_deed tree plan place p) own_shown
-
-    pub left_own : (after : ℕ) → after ≤ length (all_deeds tree plan p) → map (phase_deed tree plan place p) (drop after (all_deeds tree plan p)) ≡ begins_own.rest → drop after (all_deeds tree plan p) ≡ flat_map (turn_deeds tree plan p) h.later
-    unfolding begins_own begins_seen
-    left_own after within now = left_seen (phase_deed tree plan place p) own_shown after within now
 
   -- it is done
   pub executed : (after : ℕ) (y : Executor) → drop after (all_deeds tree plan p) ≡ flat_map (turn_deeds tree plan p) h.later → after ≤ length (all_deeds tree plan p) → registers_by Arrive tree plan p after ≡ [] → CanExecute y → executor_tree y ≡ tree →

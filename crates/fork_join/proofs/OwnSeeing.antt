@@ -1,4 +1,4 @@
--- What a worker sees in a phase with own scalars.
+-- What an instance of a phase sees.
 use mathlib.Core.Logic.{∥∥₁_elim}
 use Rattle.std.proofs.Common.{◌≡◌, ℕ, ℤ, ◌+◌, ◌<◌, List, [], ◌∷◌, drop, map, Option, Some, None, sym, ◌∙◌, ap, subst}
 use Rattle.std.proofs.Props.{props}
@@ -15,8 +15,8 @@ use Rattle.instance_runs.specs.declared.execute.Executor.{Executor}
 use Rattle.spmd_model.specs.Deeds.{Deed, loading, printing, storing}
 use Rattle.fork_join.specs.Cursors.{cursor_plan, cursor_tree}
 use Rattle.fork_join.specs.Joins.{own_place}
-use Rattle.fork_join.specs.SeenDeeds.{phase_deed, shared_for}
-use Rattle.fork_join.specs.Workers.{IsCursorOf, Runs}
+use Rattle.fork_join.specs.SeenDeeds.{FindsOwn, phase_deed, shared_for}
+use Rattle.fork_join.specs.Workers.{Runs}
 use Rattle.fork_join.specs.declared.cursor.Cursor.{Cursor}
 use Rattle.fork_join.proofs.SeenDeeds.{goes_own, goes_shared, next_load, next_print, next_store, seen_left, slot_small}
 
@@ -26,36 +26,34 @@ same_slot a b = Prim.hlevel props
 less : (a b : ℕ) → IsProp (a < b)
 less a b = Prim.hlevel props
 
-module _ (tree : Tree) (plan : Plan) (c : Cursor) where
+-- ---- what is known of own scalars
+
+module _ (tree : Tree) (plan : Plan) (p : ℕ) (left : List CounterTurn) (done : ℕ) (c : Cursor) (x : Executor) (r : Runs tree plan p left done c x) where
   abbrev Both : Type 0
   Both = Tree × Plan
 
-  both_is : IsCursorOf tree plan c → ◌≡◌ {A = Both} (cursor_tree c, cursor_plan c) (tree, plan)
-  both_is k = λ i. (k.program i, k.plan_is i)
+  both_is : ◌≡◌ {A = Both} (cursor_tree c, cursor_plan c) (tree, plan)
+  both_is = λ i. (r.program i, r.plan_is i)
 
-  pub few_here : IsCursorOf tree plan c → AreFew tree (own_loop tree plan (turns_place c.turns))
-  few_here k = subst (λ (z : Both). AreFew z.0 (own_loop z.0 z.1 (turns_place c.turns))) (both_is k) k.sound.own.few
+  pub few_here : AreFew tree (own_loop tree plan (turns_place c.turns))
+  few_here = subst (λ (z : Both). AreFew z.0 (own_loop z.0 z.1 (turns_place c.turns))) both_is r.sound.sound.own.few
+
+  pub cells_here : AreOwnCells tree (own_loop tree plan (turns_place c.turns)) (turns_own c.turns)
+  cells_here = subst (λ (z : Both). AreOwnCells z.0 (own_loop z.0 z.1 (turns_place c.turns)) (turns_own c.turns)) both_is r.sound.sound.own.cells
 
   -- a phase where none is found has none
-  pub none_found : IsCursorOf tree plan c → (own : OwnCells) → own ≡ turns_own c.turns → ((tr : Tree) → (lo : OwnLoop) → AreOwnCells tr lo own → (lo.privates ≡ []) × (lo.sums ≡ [])) → HasNoOwn tree plan (turns_place c.turns)
-  none_found k own is found =
-      let cells = subst (AreOwnCells tree (own_loop tree plan (turns_place c.turns))) (sym is) (subst (λ (z : Both). AreOwnCells z.0 (own_loop z.0 z.1 (turns_place c.turns)) (turns_own c.turns)) (both_is k) k.sound.own.cells) in
-      let none = found tree (own_loop tree plan (turns_place c.turns)) cells in
+  pub none_found : (own : OwnCells) → own ≡ turns_own c.turns → ((tr : Tree) → (lo : OwnLoop) → AreOwnCells tr lo own → (lo.privates ≡ []) × (lo.sums ≡ [])) → HasNoOwn tree plan (turns_place c.turns)
+  none_found own is found =
+      let none = found tree (own_loop tree plan (turns_place c.turns)) (subst (AreOwnCells tree (own_loop tree plan (turns_place c.turns))) (sym is) cells_here) in
       record { privates = none.0; sums = none.1 }
 
-  module _ (t : ∥ IsCursorOf tree plan c ∥₁) (cell : ℕ) where
-    -- the slot that is found for a cell is its own
-    pub slot_found : (own : OwnCells) (o : Option ℕ) → own ≡ turns_own c.turns → ((tr : Tree) → (pl : Plan) → (place : ℕ) → AreOwnCells tr (own_loop tr pl place) own → o ≡ (own_of tr pl place).slot cell) → o ≡ (own_of tree plan (turns_place c.turns)).slot cell
-    slot_found own o is found = ∥∥₁_elim t (same_slot o ((own_of tree plan (turns_place c.turns)).slot cell)) (λ k.
-        found tree plan (turns_place c.turns) (subst (AreOwnCells tree (own_loop tree plan (turns_place c.turns))) (sym is)
-        (subst (λ (z : Both). AreOwnCells z.0 (own_loop z.0 z.1 (turns_place c.turns)) (turns_own c.turns)) (both_is k) k.sound.own.cells)))
+module _ (tree : Tree) (plan : Plan) (place cell : ℕ) (fits : Tree → Plan → ℕ → Type 0) (t : ∥ FindsOwn tree plan place fits ∥₁) where
+  -- the slot that is found for a cell is its own
+  pub slot_found : (o : Option ℕ) → ((tr : Tree) → (pl : Plan) → (k : ℕ) → fits tr pl k → o ≡ (own_of tr pl k).slot cell) → o ≡ (own_of tree plan place).slot cell
+  slot_found o found = ∥∥₁_elim t (same_slot o ((own_of tree plan place).slot cell)) (λ h. found tree plan place h.fit)
 
-    pub small_found : (k : ℕ) → Some k ≡ (own_of tree plan (turns_place c.turns)).slot cell → k < 32
-    small_found k at = ∥∥₁_elim t (less k 32) (λ h. slot_small tree plan (turns_place c.turns) 0 (few_here h) cell k at)
-
--- a cursor that runs is of its program and its plan
-pub cursor_of : (tree : Tree) (plan : Plan) (p : ℕ) (left : List CounterTurn) (done : ℕ) (c : Cursor) (x : Executor) → Runs tree plan p left done c x → IsCursorOf tree plan c
-cursor_of tree plan p left done c x r = record { sound = r.sound.sound; program = r.program; plan_is = r.plan_is }
+  pub small_found : (k : ℕ) → Some k ≡ (own_of tree plan place).slot cell → k < 32
+  small_found k at = ∥∥₁_elim t (less k 32) (λ h. slot_small tree plan place 0 h.few cell k at)
 
 -- ---- which deed comes next
 

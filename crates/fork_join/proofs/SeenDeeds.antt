@@ -16,11 +16,10 @@ use Rattle.sync_plan.specs.Own.{at_slot, own_cell, own_loop, own_of, place_in}
 use Rattle.sync_plan.specs.declared.plan.Plan.{Plan}
 use Rattle.own_cells.specs.OwnCells.{AreFew}
 use Rattle.spmd_model.specs.Deeds.{Deed, posting, awaiting, loading, storing, adding, printing, instance_deeds, last_deed}
-use Rattle.spmd_model.specs.MachineDeeds.{HasNoOwn, own_deeds}
+use Rattle.spmd_model.specs.MachineDeeds.{own_deeds}
 use Rattle.turns.specs.Turns.{scalar_at}
-use Rattle.spmd_model.proofs.NoOwnDeeds.{same_deeds}
 use Rattle.fork_join.specs.Joins.{own_place}
-use Rattle.fork_join.specs.SeenDeeds.{is_seen, no_deed, phase_deed, same_cell, seen_deed, shared_deed, shared_for}
+use Rattle.fork_join.specs.SeenDeeds.{is_seen, no_deed, phase_deed, seen_deed, shared_for}
 use Rattle.fork_join.proofs.Seeing.{next_left}
 
 -- the cell of a deed, and what it stores
@@ -182,32 +181,7 @@ module _ (to from : ℕ → ℕ) (cells : ℕ) where
         ∙ ap (λ l. instance_deeds tree i ++ l) (shown_instances tree is rest (All-tail (λ i. All (λ c. c < cells) (cells_of tree i)) i is there))
         ∙ sym (append_assoc (instance_deeds tree i) (flat_map (instance_deeds tree) is) (map seen rest))
 
--- ---- where a phase has no own scalars
-
-same_cells : (cs : List ℕ) → map same_cell cs ≡ cs
-same_cells [] = refl
-same_cells (c ∷ cs) = ap (λ l. c ∷ l) (same_cells cs)
-
-same_store : (o : Option ℕ) → option_map same_cell o ≡ o
-same_store None = refl
-same_store (Some c) = refl
-
-same_job : (tree : Tree) (i : Instance) → job_deeds same_cell tree i ≡ instance_deeds tree i
-same_job tree i =
-    ap (λ cs. map loading cs ++ last_deed (option_map same_cell (store_of tree i)) false (assigned_value tree i) (line_of tree i) ∷ []) (same_cells (loads_of tree i))
-    ∙ ap (λ o. map loading (loads_of tree i) ++ last_deed o false (assigned_value tree i) (line_of tree i) ∷ []) (same_store (store_of tree i))
-
-flat_same : (f g : Instance → List Deed) → ((i : Instance) → f i ≡ g i) → (is : List Instance) → flat_map f is ≡ flat_map g is
-flat_same f g same [] = refl
-flat_same f g same (i ∷ is) = ap (λ l. l ++ flat_map f is) (same i) ∙ ap (λ l. g i ++ l) (flat_same f g same is)
-
-pub plain_instances : (tree : Tree) (plan : Plan) (place p : ℕ) (is : List Instance) (rest : List Deed) → HasNoOwn tree plan place → All (λ i. All (λ c. c < cell_count tree) (cells_of tree i)) is →
-    map (shared_deed tree) (flat_map (own_deeds tree (own_of tree plan place) p) is ++ rest) ≡ flat_map (instance_deeds tree) is ++ map (shared_deed tree) rest
-plain_instances tree plan place p is rest none there =
-    ap (λ l. map (shared_deed tree) (l ++ rest)) (flat_same (own_deeds tree (own_of tree plan place) p) (job_deeds same_cell tree) (λ i. same_deeds tree plan place p i none ∙ sym (same_job tree i)) is)
-    ∙ shown_instances same_cell same_cell (cell_count tree) (λ c lt. refl) tree is rest there
-
--- ---- where it has some
+-- ---- in a phase
 
 -- a place from 16 on
 not_low : (n : ℕ) → nat_lt (16 + n) 16 ≡ false

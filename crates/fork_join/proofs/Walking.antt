@@ -44,7 +44,7 @@ use Rattle.turns.specs.declared.turns.NextOrPhase.TheVariants as Coming
 use Rattle.turns.specs.declared.turns.Next.TheVariants as Nexts
 use Rattle.fork_join.specs.Cursors.{ComesNext, IsCursor, IsSameCursor, cursor_left, cursor_turns}
 use Rattle.fork_join.specs.Joins.{IsSafe, all_deeds, begun, protocol, put}
-use Rattle.fork_join.specs.SeenDeeds.{phase_deed, shared_deed}
+use Rattle.fork_join.specs.SeenDeeds.{phase_deed}
 use Rattle.fork_join.specs.Workers.{IsOverlay, IsCounterThere, Runs, turns_begun, turns_begun_from, turns_behind}
 use Rattle.fork_join.specs.declared.cursor.Cursor.{Cursor}
 use Rattle.fork_join.specs.declared.overlay.Overlay.{Overlay}
@@ -131,9 +131,6 @@ module _ (tree : Tree) (plan : Plan) (n p : ℕ) (memory : List ℤ) (o : Overla
   key_is = λ i. (kept.program i, (kept.plan_is i, (kept.processor i, (kept.behind i, kept.memory_is i))))
 
   -- what is left, as instances have it
-  pub its_shared : (m : ℕ) → o.done.done ≡ m → map (shared_deed (tree_of o.program.now)) (drop o.done.done (all_deeds (tree_of o.program.now) o.plan.now o.processor)) ≡ map (shared_deed tree) (drop m (all_deeds tree plan p))
-  its_shared m is = λ i. map (shared_deed (kept.program i)) (drop (is i) (all_deeds (kept.program i) (kept.plan_is i) (kept.processor i)))
-
   pub its_phase : (place m : ℕ) → o.done.done ≡ m →
       map (phase_deed (tree_of o.program.now) o.plan.now place o.processor) (drop o.done.done (all_deeds (tree_of o.program.now) o.plan.now o.processor)) ≡ map (phase_deed tree plan place p) (drop m (all_deeds tree plan p))
   its_phase place m is = λ i. map (phase_deed (kept.program i) (kept.plan_is i) place (kept.processor i)) (drop (is i) (all_deeds (kept.program i) (kept.plan_is i) (kept.processor i)))

@@ -4,6 +4,7 @@ use Rattle.nest_tree.specs.Layout.{cell_count, first_cell}
 use Rattle.nest_tree.specs.Tree.{Tree}
 use Rattle.sync_plan.specs.Own.{own_cell, own_loop, own_of}
 use Rattle.sync_plan.specs.declared.plan.Plan.{Plan}
+use Rattle.own_cells.specs.OwnCells.{AreFew}
 use Rattle.spmd_model.specs.Deeds.{Deed, posting, awaiting, loading, storing, adding, printing}
 use Rattle.spmd_model.specs.Timelines.{counter}
 use Rattle.turns.specs.Turns.{scalar_at}
@@ -25,13 +26,6 @@ seen_deed to from cells (storing cell value) = if is_seen to from cells cell the
 seen_deed to from cells (adding cell value) = no_deed
 seen_deed to from cells (printing line) = printing line
 
--- where a phase has no own scalars
-abbrev pub same_cell : ℕ → ℕ
-same_cell cell = cell
-
-abbrev pub shared_deed : Tree → Deed → Deed
-shared_deed tree d = seen_deed same_cell same_cell (cell_count tree) d
-
 -- the cell that all share for a cell of processor p in the static phase with a place
 abbrev pub shared_for : Tree → Plan → ℕ → ℕ → ℕ → ℕ
 shared_for tree plan place p cell = if nat_lt cell (cell_count tree) then cell else first_cell tree (scalar_at (own_loop tree plan place) (cell - cell_count tree - 32 * p))
@@ -39,3 +33,8 @@ shared_for tree plan place p cell = if nat_lt cell (cell_count tree) then cell e
 -- in that phase
 abbrev pub phase_deed : Tree → Plan → ℕ → ℕ → Deed → Deed
 phase_deed tree plan place p d = seen_deed (own_cell (own_of tree plan place) p) (shared_for tree plan place p) (cell_count tree) d
+
+-- the static phase with a place has few own scalars, and a way to look for them fits it
+pub record FindsOwn (tree : Tree) (plan : Plan) (place : ℕ) (fits : Tree → Plan → ℕ → Type 0) : Type 0 where
+  pub few : AreFew tree (own_loop tree plan place)
+  pub fit : fits tree plan place

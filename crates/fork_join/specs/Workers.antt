@@ -16,7 +16,6 @@ use Rattle.instance_runs.specs.Executors.{CanExecute, executor_output, executor_
 use Rattle.turns.specs.CounterTurns.{counter_room, CounterTurn, posts, awaits, begins, is_counter_inside, counter_deeds, counter_turns, works}
 use Rattle.instance_runs.specs.declared.execute.Executor.{Executor}
 use Rattle.turns.specs.Turns.{Turn, turn_deeds}
-use Rattle.turns.specs.TurnsLeft.{AreSound}
 use Rattle.crossbeam_utils.specs.declared.cache_padded.CachePadded.{CachePadded}
 use Rattle.crossbeam_utils.specs.Padded.{padded_value}
 use Rattle.fork_join.specs.Cursors.{IsCursor, IsShut, cursor_left, cursor_plan, cursor_processor, cursor_tree, cursor_turns}
@@ -147,12 +146,6 @@ pub record HasExecuted (tree : Tree) (plan : Plan) (p done after : ℕ) (c : Cur
   pub wider : executor_room x ≤ executor_room y
   pub fits : length (executor_output y) ≤ executor_room y
   pub grown : (t : CounterTurn) (rest : List CounterTurn) → cursor_left c ≡ t ∷ rest → length (executor_output y) ≤ length (executor_output x) + counter_room tree t
-
--- a cursor is of this program and this plan
-pub record IsCursorOf (tree : Tree) (plan : Plan) (c : Cursor) : Type 0 where
-  pub sound : AreSound c.turns
-  pub program : cursor_tree c ≡ tree
-  pub plan_is : cursor_plan c ≡ plan
 
 -- of all workers
 abbrev pub AreAt : Tree → Plan → ℕ → List (CachePadded Worker) → Type 0

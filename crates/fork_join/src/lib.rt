@@ -7,18 +7,21 @@
 //! - `worker`: one worker, phase by phase.
 //! - `walk`: the instances of a phase, one behind another.
 //! - `cursor`: the turns that a worker has left.
-//! - `overlay`, `own_overlay`: the cells as a worker sees them in a phase.
+//! - `overlay`, `phase_overlay`: the cells as a worker and its instances see them in a phase.
+//! - [`Places`]: where an instance looks for the own scalars of its phase.
 //! - `stores`: a worker's stores since the phase began.
 #![tactic(auto)]
 
 mod cursor;
 mod overlay;
-mod own_overlay;
+mod phase_overlay;
+mod places;
 mod receipt;
 mod run;
 mod stores;
 mod walk;
 mod worker;
 
+pub use places::{NoOwn, Places, SomeOwn};
 pub use receipt::Receipt;
 pub use run::run_join;

@@ -1,17 +1,14 @@
 // The cells as a worker sees them in a phase.
 
-ghost use Rattle.std.specs.Prelude.{◌<◌, ℕ, ℤ, List, drop, length, map};
-ghost use Rattle.nest_tree.specs.Tree.{Tree};
+ghost use Rattle.std.specs.Prelude.{◌<◌, ℕ, ℤ, List, drop, length};
 ghost use Rattle.nest_tree.specs.View.{tree_of};
-ghost use Rattle.sync_plan.specs.declared.plan.Plan.{Plan};
 ghost use Rattle.spmd_model.specs.declared.style.Style.TheVariants.{Arrive};
 ghost use Rattle.spmd_model.specs.PlanProtocols.{printed_by, registers_by};
 ghost use Rattle.fork_join.specs.Joins.{IsAlone, all_deeds};
 ghost use Rattle.fork_join.specs.StoreLists.{AreKept, cells_of, entries_of};
-ghost use Rattle.fork_join.specs.SeenDeeds.{shared_deed};
 
 use crate::stores::Stores;
-use instance_runs::{Deeds, Progress};
+use instance_runs::Progress;
 use nest_tree::Program;
 use own_cells::OWN_PLACES;
 use sync_plan::Plan;
@@ -203,36 +200,5 @@ impl<'a> Overlay<'a> {
             self.old.memory.now self.new }
     {
         self.done = self.done.further();
-    }
-}
-
-// In a phase without own scalars.
-impl<'a> Deeds for Overlay<'a> {
-    ghost left = { λ o. map (shared_deed (tree_of o.program.now))
-        (drop o.done.done (all_deeds (tree_of o.program.now) o.plan.now o.processor)) };
-
-    ghost registers = { λ o. registers_by Arrive
-        (tree_of o.program.now) o.plan.now o.processor o.done.done };
-
-    ghost printed = { λ o. printed_by Arrive
-        (tree_of o.program.now) o.plan.now o.processor o.done.done };
-
-    ghost Kept = { Tree × (Plan × (ℕ × (ℕ × List ℤ))) };
-
-    ghost kept = { λ o.
-        (tree_of o.program.now, (o.plan.now, (o.processor, (o.behind, o.memory.now)))) };
-
-    #[inline(always)]
-    fn load(&mut self, cell: u32) -> i64 {
-        self.load_shared(cell)
-    }
-
-    #[inline(always)]
-    fn store(&mut self, cell: u32, value: i64) {
-        self.store_shared(cell, value);
-    }
-
-    fn print(&mut self) {
-        self.print_line();
     }
 }

@@ -1,21 +1,13 @@
 -- The deed that comes next, where a map of deeds has it as the program does.
-use mathlib.Core.Logic.{∥∥₁_elim}
 use Rattle.std.proofs.Common.{◌≡◌, ℕ, ◌+◌, ◌<◌, ℤ, pos, List, [], ◌∷◌, ◌++◌, get_or, map, set, Option, Some, None, sym, ◌∙◌, ap}
-use Rattle.std.proofs.Props.{props}
 use Rattle.nest_tree.specs.Layout.{cell_count}
-use Rattle.nest_tree.specs.Tree.{Tree}
-use Rattle.sync_plan.specs.Own.{at_slot, own_loop, own_of}
-use Rattle.sync_plan.specs.declared.plan.Plan.{Plan}
-use Rattle.own_cells.specs.OwnCells.{AreOwnCells}
-use Rattle.own_cells.specs.declared.cells.OwnCells.{OwnCells}
+use Rattle.sync_plan.specs.Own.{at_slot, own_of}
 use Rattle.spmd_model.specs.Deeds.{Deed, loading, printing, storing}
 use Rattle.turns.specs.TurnsLeft.{turns_place}
 use Rattle.turns.specs.declared.turns.Turns.{Turns}
 use Rattle.shared_words.specs.Calls.{LoadsNext, StoresNext}
 use Rattle.shared_words.specs.Homes.{CellView, Home, gone, loaded_next, protocol_at, stored_next}
-use Rattle.fork_join.proofs.SeenDeeds.{slot_small}
 use Rattle.spmd_workers.specs.Held.{AreHeld}
-use Rattle.spmd_workers.specs.OwnPlaces.{AreKnown}
 use Rattle.fork_join.specs.SeenDeeds.{phase_deed}
 use Rattle.spmd_workers.specs.Places.{left_behind, own_place, plan_at, printed_behind, registers_behind, tree_at}
 use Rattle.spmd_workers.proofs.ByProgram.{first_of, own_load, own_store}
@@ -109,19 +101,6 @@ module _ (f : Deed → Deed) (from v : CellView) (held : AreHeld v.home) (below 
       }
 
 -- ---- by the place of a cell among the own scalars
-
-same_slot : (a b : Option ℕ) → IsProp (a ≡ b)
-same_slot a b = Prim.hlevel props
-
-below_prop : (a b : ℕ) → IsProp (a < b)
-below_prop a b = Prim.hlevel props
-
-module _ (h : Home) (t : Turns) (o : OwnCells) (known : ∥ AreKnown h t o ∥₁) (cell : ℕ) (found : Option ℕ) where
-  pub its_slot : ((tree : Tree) → (plan : Plan) → (place : ℕ) → AreOwnCells tree (own_loop tree plan place) o → found ≡ (own_of tree plan place).slot cell) → found ≡ (own_of (tree_at h) (plan_at h) (turns_place t)).slot cell
-  its_slot is = ∥∥₁_elim known (same_slot found ((own_of (tree_at h) (plan_at h) (turns_place t)).slot cell)) (λ k. is (tree_at h) (plan_at h) (turns_place t) k.cells)
-
-  pub its_small : found ≡ (own_of (tree_at h) (plan_at h) (turns_place t)).slot cell → (k : ℕ) → found ≡ Some k → k < 32
-  its_small at k some = ∥∥₁_elim known (below_prop k 32) (λ a. slot_small (tree_at h) (plan_at h) (turns_place t) 0 a.few cell k (sym some ∙ at))
 
 module _ (h : Home) (t : Turns) (p cell : ℕ) (found : Option ℕ) (at : found ≡ (own_of (tree_at h) (plan_at h) (turns_place t)).slot cell) where
   abbrev f : Deed → Deed

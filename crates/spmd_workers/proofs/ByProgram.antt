@@ -13,9 +13,9 @@ use Rattle.sync_plan.specs.Own.{own_cell, own_loop, own_of}
 use Rattle.sync_plan.specs.declared.plan.Plan.{Plan}
 use Rattle.own_cells.specs.OwnCells.{AreFew}
 use Rattle.spmd_model.specs.Deeds.{Deed, loading, storing, printing, instance_deeds}
-use Rattle.spmd_model.specs.MachineDeeds.{HasNoOwn, own_deeds}
-use Rattle.fork_join.specs.SeenDeeds.{phase_deed, same_cell, shared_deed, shared_for}
-use Rattle.fork_join.proofs.SeenDeeds.{next_load, next_print, next_store, phase_instances, plain_instances}
+use Rattle.spmd_model.specs.MachineDeeds.{own_deeds}
+use Rattle.fork_join.specs.SeenDeeds.{phase_deed, shared_for}
+use Rattle.fork_join.proofs.SeenDeeds.{next_load, next_print, next_store, phase_instances}
 use Rattle.spmd_workers.specs.Walks.{is_instance_there}
 
 -- ---- an instance's cells are the program's
@@ -36,30 +36,7 @@ one_there tree i all =
 alone : (f : Deed → Deed) (xs ys : List Deed) → map f ((xs ++ []) ++ []) ≡ (ys ++ []) ++ map f [] → map f xs ≡ ys
 alone f xs ys is = sym (ap (map f) (append-nil (xs ++ []) ∙ append-nil xs)) ∙ is ∙ append-nil (ys ++ []) ∙ append-nil ys
 
--- ---- in a phase without own scalars
-
-pub shared_instance : (tree : Tree) (plan : Plan) (place p : ℕ) (i : Instance) → HasNoOwn tree plan place → is_instance_there tree i ≡ true → map (shared_deed tree) (own_deeds tree (own_of tree plan place) p i) ≡ instance_deeds tree i
-shared_instance tree plan place p i none all = alone (shared_deed tree) (own_deeds tree (own_of tree plan place) p i) (instance_deeds tree i) (plain_instances tree plan place p (i ∷ []) [] none (one_there tree i all))
-
-pub shared_load : (tree : Tree) (c : ℕ) (d : Deed) → shared_deed tree d ≡ loading c → (d ≡ loading c) × (c < cell_count tree)
-shared_load tree c d same =
-    let (more, is, below) = next_load same_cell same_cell (cell_count tree) (d ∷ []) c [] (ap (λ x. x ∷ []) same) in
-    let both : d ∷ [] ≡ loading c ∷ more = is in
-    (cc, below)
-
-pub shared_store : (tree : Tree) (c : ℕ) (value : List ℤ → ℤ) (d : Deed) → shared_deed tree d ≡ storing c value → (d ≡ storing c value) × (c < cell_count tree)
-shared_store tree c value d same =
-    let (more, is, below) = next_store same_cell same_cell (cell_count tree) (d ∷ []) c value [] (ap (λ x. x ∷ []) same) in
-    let both : d ∷ [] ≡ storing c value ∷ more = is in
-    (cc, below)
-
-pub shared_print : (tree : Tree) (line : List ℤ → List ℕ) (d : Deed) → shared_deed tree d ≡ printing line → d ≡ printing line
-shared_print tree line d same =
-    let (more, is) = next_print same_cell same_cell (cell_count tree) (d ∷ []) line [] (ap (λ x. x ∷ []) same) in
-    let both : d ∷ [] ≡ printing line ∷ more = is in
-    cc
-
--- ---- in a phase with own scalars
+-- ---- in a phase
 
 module _ (tree : Tree) (plan : Plan) (place p : ℕ) where
   abbrev there : ℕ → ℕ

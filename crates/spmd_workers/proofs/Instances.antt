@@ -21,7 +21,7 @@ use Rattle.nest_walk.specs.Texts as Texts
 use Rattle.nest_walk.specs.declared.cursor.Stop.{Stop}
 use Rattle.sync_plan.specs.Own.{Own, own_cell, own_loop, own_of}
 use Rattle.sync_plan.specs.declared.plan.Plan.{Plan}
-use Rattle.own_cells.specs.OwnCells.{AreFew, AreOwnCells}
+use Rattle.own_cells.specs.OwnCells.{AreFew}
 use Rattle.spmd_model.specs.Deeds.{Deed, instance_deeds, last_deed, loading}
 use Rattle.spmd_model.specs.MachineDeeds.{own_deeds}
 use Rattle.instance_runs.specs.Executors.{Begins, executor_output, executor_room, executor_tree}
@@ -30,10 +30,10 @@ use Rattle.turns.specs.CounterTurns.{counter_room, works}
 use Rattle.turns.specs.CountersLeft.{counters_tree}
 use Rattle.instance_runs.specs.Stops.{IsInstance}
 use Rattle.turns.specs.Turns.{Turn, runs, turn_deeds, turn_room}
-use Rattle.turns.specs.TurnsLeft.{turns_left, turns_own, turns_place, turns_plan, turns_rounds, turns_tree}
+use Rattle.turns.specs.TurnsLeft.{turns_left, turns_place, turns_plan, turns_rounds, turns_tree}
+use Rattle.fork_join.specs.SeenDeeds.{FindsOwn}
 use Rattle.fork_join.proofs.Walking.{same_room}
 use Rattle.shared_words.specs.Homes.{Home}
-use Rattle.spmd_workers.specs.OwnPlaces.{AreKnown}
 use Rattle.spmd_workers.specs.Places.{deeds_in, left_behind, plan_at, tree_at}
 use Rattle.spmd_workers.specs.Walks.{IsWalk, is_instance_there, is_turn_there, walk_place}
 use Rattle.spmd_workers.specs.declared.walk.Walk.{Walk}
@@ -156,14 +156,15 @@ no_posts_run h p place is = subst AreNoPosts (sym (runs_deeds h p place is)) (in
 pub same_count : (f : Deed → Deed) (xs ys : List Deed) → map f xs ≡ map f ys → length xs ≡ length ys
 same_count f xs ys same = sym (length-map xs f) ∙ ap (λ (l : List Deed). length l) same ∙ length-map ys f
 
--- the own scalars of the phase are known
-pub own_known : (x : Walk) → IsWalk x → AreKnown x.seat.home x.turns (turns_own x.turns)
-own_known x ready =
-    let both : (turns_tree x.turns, turns_plan x.turns) ≡ (tree_at x.seat.home, plan_at x.seat.home) = λ i. (ready.tree i, ready.plan i) in
-    record {
-      few = subst (λ (k : Tree × Plan). AreFew k.0 (own_loop k.0 k.1 (turns_place x.turns))) both ready.sound.own.few;
-      cells = subst (λ (k : Tree × Plan). AreOwnCells k.0 (own_loop k.0 k.1 (turns_place x.turns)) (turns_own x.turns)) both ready.sound.own.cells;
-    }
+-- the phase has few own scalars, and a way to look for them fits it
+pub few_known : (x : Walk) → IsWalk x → AreFew (tree_at x.seat.home) (own_loop (tree_at x.seat.home) (plan_at x.seat.home) (turns_place x.turns))
+few_known x ready = subst (λ (k : Tree × Plan). AreFew k.0 (own_loop k.0 k.1 (turns_place x.turns))) (λ i. (ready.tree i, ready.plan i)) ready.sound.own.few
+
+pub finds_here : (x : Walk) → IsWalk x → (fits : Tree → Plan → ℕ → Type 0) → fits (turns_tree x.turns) (turns_plan x.turns) (turns_place x.turns) → FindsOwn (tree_at x.seat.home) (plan_at x.seat.home) (turns_place x.turns) fits
+finds_here x ready fits fit = record {
+  few = few_known x ready;
+  fit = subst (λ (k : Tree × Plan). fits k.0 k.1 (turns_place x.turns)) (λ i. (ready.tree i, ready.plan i)) fit;
+}
 
 pub same_tail : {t u : Turn} {ts us left : List Turn} → left ≡ t ∷ ts → left ≡ u ∷ us → ts ≡ us
 same_tail {t} {u} {ts} {us} {left} a b = let both : t ∷ ts ≡ u ∷ us = sym a ∙ b in cc

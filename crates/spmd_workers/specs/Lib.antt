@@ -1,5 +1,4 @@
 pub mod Places
-pub mod OwnPlaces
 pub mod Held
 pub mod Legs
 pub mod Walks

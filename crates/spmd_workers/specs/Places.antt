@@ -15,7 +15,7 @@ use Rattle.turns.specs.CounterTurns.{counter_turns}
 use Rattle.turns.specs.Turns.{Turn, first_standing, turns_by, turn_deeds}
 use Rattle.turns.specs.TurnsLeft.{turns_left, turns_place}
 use Rattle.turns.specs.declared.turns.Turns.{Turns}
-use Rattle.fork_join.specs.SeenDeeds.{phase_deed, shared_deed}
+use Rattle.fork_join.specs.SeenDeeds.{phase_deed}
 use Rattle.shared_words.specs.Places.{settled_at}
 use Rattle.shared_words.specs.Homes.{CellView, Home, plan_given, protocol_at, style_given, tree_given}
 
@@ -76,9 +76,6 @@ printed_behind v n = (protocol_at v.home).printed_at v.processor n
 
 -- ---- as an instance has it
 
--- what is left, as an instance of a phase without own scalars has it, and as one of the phase has it that these turns are in
-abbrev pub left_shared : CellView → CellView → List ℤ → ℕ → List Deed
-left_shared from v own n = map (shared_deed (tree_at v.home)) (left_behind from v own n)
-
-abbrev pub left_own : Turns → CellView → CellView → List ℤ → ℕ → List Deed
-left_own t from v own n = map (phase_deed (tree_at v.home) (plan_at v.home) (turns_place t) v.processor) (left_behind from v own n)
+-- what is left, as an instance of the phase has it that these turns are in
+abbrev pub left_seen : Turns → CellView → CellView → List ℤ → ℕ → List Deed
+left_seen t from v own n = map (phase_deed (tree_at v.home) (plan_at v.home) (turns_place t) v.processor) (left_behind from v own n)

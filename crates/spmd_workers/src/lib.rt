@@ -5,14 +5,13 @@
 //! - [`run`]: all workers of a plan, on threads.
 //! - [`tables`]: what all workers of a program look up.
 //! - `walk`: the turns of a worker, one after another.
-//! - `deeds`, `own_deeds`: loads, stores and PRINTs over the shared words, and over own cells.
+//! - `deeds`: loads, stores and PRINTs over the shared words and own cells.
 //! - `laws`: what holds of the processors of a table.
 //! - `polls`, `patience`: waits, and how long a worker polls.
 #![tactic(auto)]
 
 mod deeds;
 mod laws;
-mod own_deeds;
 mod patience;
 mod polls;
 pub mod run;

@@ -2,17 +2,18 @@
 
 ghost use Rattle.std.specs.Prelude.{◌≡◌, ◌≤◌, ◌<◌, ◌≢◌, true, false, [], length, Option};
 
-use crate::deeds::SharedDeeds;
+use crate::deeds::PhaseDeeds;
 use crate::laws::laws_of;
-use crate::own_deeds::OwnDeeds;
 use crate::patience::Patience;
 use crate::polls::{Awaited, poll_arrivals_until, poll_signal_until, poll_until};
 use crate::worker::Leg;
+use fork_join::{NoOwn, Places, SomeOwn};
 use instance_runs::{Executor, Progress};
 use nest_walk::{Stop, Strip};
 use own_cells::{OWN_PLACES, is_sum_place};
 use shared_words::{CellSeat, Cells};
 use spmd_ports::Gate;
+use std::marker::PhantomData;
 use std::snapshot::Snapshot;
 use turns::{Boundary, Next, NextOrPhase, Turns};
 
@@ -46,8 +47,8 @@ impl<'a> Walk<'a> {
     ghost use Rattle.turns.specs.TurnsLeft.{beginnings_left, turns_left, turns_own, turns_place, turns_plan, turns_rounds, turns_tree};
     ghost use Rattle.turns.specs.declared.turns.Next.{Next};
     ghost use Rattle.shared_words.specs.Homes.{protocol_at};
-    ghost use Rattle.spmd_workers.specs.OwnPlaces.{AreKnown};
-    ghost use Rattle.spmd_workers.specs.Places.{left_own, left_shared, place_of, printed_behind, registers_behind};
+    ghost use Rattle.fork_join.specs.SeenDeeds.{FindsOwn};
+    ghost use Rattle.spmd_workers.specs.Places.{left_seen, place_of, plan_at, printed_behind, registers_behind, tree_at};
     ghost use Rattle.spmd_workers.specs.Walks.{ComesNext, EndsLeg, GoesTo, IsWalk, LeadsOn, TurnTells, walk_place};
 
     // On to the next wait that takes too long, to the next Join, or to the end.
@@ -137,7 +138,7 @@ impl<'a> Walk<'a> {
         true
     }
 
-    // These trips, which come next of those turns, over the words that all share; how many deeds
+    // These trips, which come next of those turns, in a phase without own scalars; how many deeds
     // that was.
     fn repeat(
         &mut self,
@@ -147,12 +148,14 @@ impl<'a> Walk<'a> {
     ) -> Snapshot<Progress>
         requires own { self.old.seat.home ≡ cells.now }
         requires worker { self.old.seat.processor < (protocol_at self.old.seat.home).workers }
+        requires finds { FindsOwn (tree_at self.old.seat.home) (plan_at self.old.seat.home)
+            (turns_place turns.value) HasNoOwn }
         requires can { CanExecute self.old.executor }
         requires walked { strip_tree strip ≡ executor_tree self.old.executor }
         requires inside { IsTrue (list_all (is_instance_inside (executor_tree self.old.executor))
             (strip_left strip)) }
         requires left { (rest : List Deed)
-            × (left_shared self.old.seat self.old.seat self.old.own
+            × (left_seen turns.value self.old.seat self.old.seat self.old.own
             (place_of self.old.seat turns.value)
             ≡ flat_map (instance_deeds (executor_tree self.old.executor)) (strip_left strip)
             ++ rest) }
@@ -161,10 +164,10 @@ impl<'a> Walk<'a> {
         ensures processor { self.new.seat.processor ≡ self.old.seat.processor }
         ensures can { CanExecute self.new.executor }
         ensures program { executor_tree self.new.executor ≡ executor_tree self.old.executor }
-        ensures left { left_shared self.old.seat self.old.seat self.old.own
+        ensures left { left_seen turns.entry.value self.old.seat self.old.seat self.old.own
             (place_of self.old.seat turns.entry.value)
             ≡ flat_map (instance_deeds (executor_tree self.old.executor)) (strip_left strip.entry)
-            ++ left_shared self.old.seat self.new.seat self.new.own
+            ++ left_seen turns.entry.value self.old.seat self.new.seat self.new.own
             (place_of self.new.seat turns.entry.value + result.value.done) }
         ensures idle { registers_behind self.new.seat (place_of self.new.seat turns.entry.value
             + result.value.done) ≡ [] }
@@ -179,10 +182,12 @@ impl<'a> Walk<'a> {
         ensures ended { self.new.ended ≡ self.old.ended }
     {
         let from = Snapshot::of(&self.seat);
-        let mut deeds = SharedDeeds {
+        let mut deeds = PhaseDeeds::<NoOwn> {
             cells,
             seat: &mut self.seat,
-            own: &self.own,
+            own: &mut self.own,
+            scalars: self.turns.own_cells(),
+            by: PhantomData,
             turns: &turns,
             from: &from,
             done: Progress::new(),
@@ -200,103 +205,38 @@ impl<'a> Walk<'a> {
         ensures tells { TurnTells self.old self.new result }
     {
         if self.turns.own_cells().is_empty() {
-            self.work_shared(cells, stop)
+            self.work_by::<NoOwn>(cells, stop)
         } else {
-            self.work_own(cells, stop)
+            self.work_by::<SomeOwn>(cells, stop)
         }
     }
 
-    // The same in a phase without own scalars.
-    fn work_shared(&mut self, cells: &Cells<'_>, stop: Stop<'a>) -> Option<Leg>
+    // The same by a way to look for own scalars that fits the phase.
+    fn work_by<P: Places>(&mut self, cells: &Cells<'_>, stop: Stop<'a>) -> Option<Leg>
         requires ready { IsWalk self.old }
         requires own { self.old.seat.home ≡ cells.now }
         requires next { ComesNext self.old (Next.Work stop) }
-        requires none { HasNoOwn (turns_tree self.old.turns) (turns_plan self.old.turns)
-            (turns_place self.old.turns) }
+        requires fits { P.Fits (turns_own self.old.turns)
+            (turns_tree self.old.turns) (turns_plan self.old.turns) (turns_place self.old.turns) }
         ensures goes { GoesTo self.old self.new }
         ensures tells { TurnTells self.old self.new result }
     {
         laws_of(cells);
-        self.execute(cells, stop);
+        self.execute::<P>(cells, stop);
         self.turns.pass(Next::Work(stop));
         None
     }
 
-    // And in one that may have some.
-    fn work_own(&mut self, cells: &Cells<'_>, stop: Stop<'a>) -> Option<Leg>
-        requires ready { IsWalk self.old }
-        requires own { self.old.seat.home ≡ cells.now }
-        requires next { ComesNext self.old (Next.Work stop) }
-        ensures goes { GoesTo self.old self.new }
-        ensures tells { TurnTells self.old self.new result }
-    {
-        laws_of(cells);
-        self.execute_own(cells, stop);
-        self.turns.pass(Next::Work(stop));
-        None
-    }
-
-    // The instance at a stop, which comes next, over the words that all share; how many deeds that
-    // was.
-    fn execute(&mut self, cells: &Cells<'_>, stop: Stop<'a>) -> Snapshot<Progress>
+    // The instance at a stop, which comes next; how many deeds that was.
+    fn execute<P: Places>(&mut self, cells: &Cells<'_>, stop: Stop<'a>) -> Snapshot<Progress>
         requires own { self.old.seat.home ≡ cells.now }
         requires worker { self.old.seat.processor < (protocol_at self.old.seat.home).workers }
+        requires finds { FindsOwn (tree_at self.old.seat.home) (plan_at self.old.seat.home)
+            (turns_place self.old.turns) (P.Fits (turns_own self.old.turns)) }
         requires can { CanExecute self.old.executor }
         requires begins { Begins (executor_tree self.old.executor)
             (turns_rounds self.old.turns) stop
-            (left_shared self.old.seat self.old.seat self.old.own (walk_place self.old)) }
-        requires idle { registers_behind self.old.seat (walk_place self.old) ≡ [] }
-        requires output { executor_output self.old.executor
-            ≡ printed_behind self.old.seat (walk_place self.old) }
-        requires room { length (executor_output self.old.executor) + visit_room
-            (executor_tree self.old.executor) (visit_at (executor_tree self.old.executor)
-            (turns_rounds self.old.turns) stop) ≤ executor_room self.old.executor }
-        ensures home { self.new.seat.home ≡ self.old.seat.home }
-        ensures processor { self.new.seat.processor ≡ self.old.seat.processor }
-        ensures can { CanExecute self.new.executor }
-        ensures program { executor_tree self.new.executor ≡ executor_tree self.old.executor }
-        ensures left { (b : Begins (executor_tree self.old.executor)
-            (turns_rounds self.old.turns) stop.entry
-            (left_shared self.old.seat self.old.seat self.old.own (walk_place self.old)))
-            → left_shared self.old.seat self.new.seat self.new.own
-            (place_of self.new.seat self.old.turns + result.value.done) ≡ b.rest }
-        ensures idle { registers_behind self.new.seat (place_of self.new.seat self.old.turns
-            + result.value.done) ≡ [] }
-        ensures output { executor_output self.new.executor
-            ≡ printed_behind self.new.seat (place_of self.new.seat self.old.turns
-            + result.value.done) }
-        ensures room { executor_room self.old.executor ≤ executor_room self.new.executor }
-        ensures grown { length (executor_output self.new.executor) ≤ length
-            (executor_output self.old.executor) + visit_room (executor_tree self.old.executor)
-            (visit_at (executor_tree self.old.executor) (turns_rounds self.old.turns) stop.entry) }
-        ensures turns { self.new.turns ≡ self.old.turns }
-        ensures answered { self.new.answered ≡ self.old.answered }
-        ensures legs { self.new.patience.legs ≡ self.old.patience.legs }
-        ensures ended { self.new.ended ≡ self.old.ended }
-    {
-        let turns = Snapshot::of(&self.turns);
-        let from = Snapshot::of(&self.seat);
-        let mut deeds = SharedDeeds {
-            cells,
-            seat: &mut self.seat,
-            own: &self.own,
-            turns: &turns,
-            from: &from,
-            done: Progress::new(),
-        };
-        self.executor.execute(stop, self.turns.path(), &mut deeds);
-        Snapshot::of(&deeds.done)
-    }
-
-    // The same where own scalars have cells of the processor's own.
-    fn execute_own(&mut self, cells: &Cells<'_>, stop: Stop<'a>) -> Snapshot<Progress>
-        requires own { self.old.seat.home ≡ cells.now }
-        requires worker { self.old.seat.processor < (protocol_at self.old.seat.home).workers }
-        requires known { AreKnown self.old.seat.home self.old.turns (turns_own self.old.turns) }
-        requires can { CanExecute self.old.executor }
-        requires begins { Begins (executor_tree self.old.executor)
-            (turns_rounds self.old.turns) stop
-            (left_own self.old.turns self.old.seat self.old.seat self.old.own
+            (left_seen self.old.turns self.old.seat self.old.seat self.old.own
             (walk_place self.old)) }
         requires idle { registers_behind self.old.seat (walk_place self.old) ≡ [] }
         requires output { executor_output self.old.executor
@@ -310,9 +250,9 @@ impl<'a> Walk<'a> {
         ensures program { executor_tree self.new.executor ≡ executor_tree self.old.executor }
         ensures left { (b : Begins (executor_tree self.old.executor)
             (turns_rounds self.old.turns) stop.entry
-            (left_own self.old.turns self.old.seat self.old.seat self.old.own
+            (left_seen self.old.turns self.old.seat self.old.seat self.old.own
             (walk_place self.old)))
-            → left_own self.old.turns self.old.seat self.new.seat self.new.own
+            → left_seen self.old.turns self.old.seat self.new.seat self.new.own
             (place_of self.new.seat self.old.turns + result.value.done) ≡ b.rest }
         ensures idle { registers_behind self.new.seat (place_of self.new.seat self.old.turns
             + result.value.done) ≡ [] }
@@ -330,11 +270,12 @@ impl<'a> Walk<'a> {
     {
         let turns = Snapshot::of(&self.turns);
         let from = Snapshot::of(&self.seat);
-        let mut deeds = OwnDeeds {
+        let mut deeds = PhaseDeeds::<P> {
             cells,
             seat: &mut self.seat,
             own: &mut self.own,
             scalars: self.turns.own_cells(),
+            by: PhantomData,
             turns: &turns,
             from: &from,
             done: Progress::new(),

@@ -1,21 +1,19 @@
 use Rattle.std.proofs.Common.{refl, ◌≡◌, ◌<◌, ◌+◌, ◌++◌, ℕ, List, length, sym, ◌∙◌, ap, subst, arith, map}
 use Rattle.std.specs.List.{flat_map}
 use Rattle.std.proofs.lemmas.List.{append_cancel_left, length-map}
-use Rattle.nest_tree.specs.Tree.{Tree}
 use Rattle.nest_walk.specs.Strips.{strip_left}
-use Rattle.sync_plan.specs.declared.plan.Plan.{Plan}
 use Rattle.spmd_model.specs.Deeds.{instance_deeds}
 use Rattle.spmd_model.specs.MachineDeeds.{HasNoOwn}
 use Rattle.instance_runs.specs.Executors.{executor_tree}
 use Rattle.turns.specs.Turns.{runs}
-use Rattle.turns.specs.TurnsLeft.{beginnings_left, turns_left, turns_place, turns_plan}
-use Rattle.shared_words.specs.Homes.{Home}
+use Rattle.turns.specs.TurnsLeft.{beginnings_left, turns_left, turns_place}
+use Rattle.turns.specs.declared.turns.Turns.{Turns}
 use Rattle.spmd_workers.specs.Held.{AreHeld}
 use Rattle.spmd_workers.specs.Legs.{IsSameSeat}
-use Rattle.fork_join.specs.SeenDeeds.{shared_deed}
-use Rattle.spmd_workers.specs.Places.{deeds_in, left_behind, left_shared, place_of, plan_at, printed_behind, registers_behind, tree_at}
-use Rattle.spmd_workers.proofs.ByProgram.{shared_instance}
-use Rattle.spmd_workers.proofs.Instances.{inside_here, no_posts_run, same_count, strip_here}
+use Rattle.fork_join.specs.SeenDeeds.{FindsOwn, phase_deed}
+use Rattle.spmd_workers.specs.Places.{deeds_in, left_behind, left_seen, place_of, plan_at, printed_behind, registers_behind, tree_at}
+use Rattle.spmd_workers.proofs.ByProgram.{own_instance}
+use Rattle.spmd_workers.proofs.Instances.{few_known, finds_here, inside_here, no_posts_run, same_count, strip_here}
 use Rattle.spmd_workers.proofs.Legs.{looked_ready}
 use Rattle.spmd_workers.proofs.Steps.{come_on}
 use Rattle.spmd_workers.proofs.Turned.{turns_go, turns_lead}
@@ -24,6 +22,12 @@ use Rattle.spmd_workers.proofs.walk.Walk.strip.Goals as goal
 
 pub repeat-requires-clause-worker : goal.repeat-requires-clause-worker
 repeat-requires-clause-worker c = its_worker c.args.self.now c.requires.ready
+
+pub repeat-requires-clause-finds : goal.repeat-requires-clause-finds
+repeat-requires-clause-finds c =
+    let x = c.args.self.now in
+    let h = x.seat.home in
+    subst (λ (t : Turns). FindsOwn (tree_at h) (plan_at h) (turns_place t) HasNoOwn) (sym c.of-turns.ensures) (finds_here x c.requires.ready HasNoOwn c.in-Some.ensures.own)
 
 pub repeat-requires-clause-walked : goal.repeat-requires-clause-walked
 repeat-requires-clause-walked c =
@@ -40,12 +44,14 @@ repeat-requires-clause-left c =
     let st = c.in-Some.ensures in
     let turns = c.of-turns.result.value in
     let tree = tree_at x.seat.home in
-    let none : HasNoOwn tree (plan_at x.seat.home) (turns_place x.turns) = subst (λ (q : Plan). HasNoOwn tree q (turns_place x.turns)) ready.plan (subst (λ (t : Tree). HasNoOwn t (turns_plan x.turns) (turns_place x.turns)) ready.tree st.own) in
+    let plan = plan_at x.seat.home in
+    let place = turns_place x.turns in
+    let few = few_known x ready in
     let front = strip_left c.in-Some.strip in
     let rest = turns_left c.strip.new.self in
-    let f = shared_deed tree in
-    let here = strip_here f x ready (turns_place x.turns) (λ i there. shared_instance tree (plan_at x.seat.home) (turns_place x.turns) x.seat.processor i none there) front rest st.left in
-    (map f (deeds_in x.seat.home x.seat.processor rest), ap (λ t. left_shared x.seat x.seat x.own (place_of x.seat t)) c.of-turns.ensures ∙ here)
+    let f = phase_deed tree plan place x.seat.processor in
+    let here = strip_here f x ready place (λ i there. own_instance tree plan place x.seat.processor i few there) front rest st.left in
+    (map f (deeds_in x.seat.home x.seat.processor rest), ap (λ t. left_seen t x.seat x.seat x.own (place_of x.seat t)) c.of-turns.ensures ∙ here)
 
 pub repeat-requires-clause-idle : goal.repeat-requires-clause-idle
 repeat-requires-clause-idle c = let x = c.args.self.now in ap (λ t. registers_behind x.seat (place_of x.seat t)) c.of-turns.ensures ∙ c.requires.ready.idle
@@ -57,11 +63,13 @@ returns-clause-goes c =
     let st = c.in-Some.ensures in
     let turns = c.of-turns.result.value in
     let tree = tree_at x.seat.home in
-    let none : HasNoOwn tree (plan_at x.seat.home) (turns_place x.turns) = subst (λ (q : Plan). HasNoOwn tree q (turns_place x.turns)) ready.plan (subst (λ (t : Tree). HasNoOwn t (turns_plan x.turns) (turns_place x.turns)) ready.tree st.own) in
+    let plan = plan_at x.seat.home in
+    let place = turns_place x.turns in
+    let few = few_known x ready in
     let front = strip_left c.in-Some.strip in
     let rest = turns_left c.strip.new.self in
-    let f = shared_deed tree in
-    let here = strip_here f x ready (turns_place x.turns) (λ i there. shared_instance tree (plan_at x.seat.home) (turns_place x.turns) x.seat.processor i none there) front rest st.left in
+    let f = phase_deed tree plan place x.seat.processor in
+    let here = strip_here f x ready place (λ i there. own_instance tree plan place x.seat.processor i few there) front rest st.left in
     let held : AreHeld x.seat.home = subst AreHeld (sym c.requires.own) c.laws_of.ensures in
     let y = c.repeat.new.self in
     let did = c.repeat.ensures in
@@ -69,11 +77,11 @@ returns-clause-goes c =
     let from = c.of-turns.ensures in
     let same : IsSameSeat x.seat y.seat = record { home = did.home; processor = did.processor } in
     let left_turns = st.left ∙ ap (λ t. map (runs (turns_place x.turns)) front ++ turns_left t) (sym did.turns) in
-    let before = ap (λ t. left_shared x.seat x.seat x.own (place_of x.seat t)) from ∙ here in
-    let behind = append_cancel_left (flat_map (instance_deeds (executor_tree x.executor)) front) (left_shared x.seat y.seat y.own (place_of y.seat turns + done)) (map f (deeds_in x.seat.home x.seat.processor rest)) (sym did.left ∙ before) in
-    let same_cells : map (shared_deed (tree_at y.seat.home)) (left_behind x.seat y.seat y.own (place_of y.seat x.turns + done)) ≡ map f (deeds_in x.seat.home x.seat.processor (turns_left y.turns)) =
-    sym (ap (λ t. left_shared x.seat y.seat y.own (place_of y.seat t + done)) from) ∙ behind ∙ ap (λ t. map f (deeds_in x.seat.home x.seat.processor (turns_left t))) (sym did.turns) in
-    let left = ap (λ (h : Home). map (shared_deed (tree_at h)) (left_behind x.seat y.seat y.own (place_of y.seat x.turns + done))) (sym did.home) ∙ same_cells in
+    let before = ap (λ t. left_seen t x.seat x.seat x.own (place_of x.seat t)) from ∙ here in
+    let behind = append_cancel_left (flat_map (instance_deeds (executor_tree x.executor)) front) (left_seen turns x.seat y.seat y.own (place_of y.seat turns + done)) (map f (deeds_in x.seat.home x.seat.processor rest)) (sym did.left ∙ before) in
+    let same_cells : map (phase_deed (tree_at y.seat.home) (plan_at y.seat.home) place y.seat.processor) (left_behind x.seat y.seat y.own (place_of y.seat x.turns + done)) ≡ map f (deeds_in x.seat.home x.seat.processor (turns_left y.turns)) =
+    sym (ap (λ t. left_seen t x.seat y.seat y.own (place_of y.seat t + done)) from) ∙ behind ∙ ap (λ t. map f (deeds_in x.seat.home x.seat.processor (turns_left t))) (sym did.turns) in
+    let left = (λ i. map (phase_deed (tree_at (sym did.home i)) (plan_at (sym did.home i)) place (sym did.processor i)) (left_behind x.seat y.seat y.own (place_of y.seat x.turns + done))) ∙ same_cells in
     let many = same_count f (left_behind x.seat y.seat y.own (place_of y.seat x.turns + done)) (deeds_in x.seat.home x.seat.processor (turns_left y.turns)) left in
     let idle = sym (ap (λ t. registers_behind y.seat (place_of y.seat t + done)) from) ∙ did.idle in
     let output = did.output ∙ ready.output ∙ sym (ap (λ t. printed_behind x.seat (place_of x.seat t)) from) ∙ sym did.printed ∙ ap (λ t. printed_behind y.seat (place_of y.seat t + done)) from in
@@ -89,11 +97,13 @@ returns-clause-on c = λ _.
     let st = c.in-Some.ensures in
     let turns = c.of-turns.result.value in
     let tree = tree_at x.seat.home in
-    let none : HasNoOwn tree (plan_at x.seat.home) (turns_place x.turns) = subst (λ (q : Plan). HasNoOwn tree q (turns_place x.turns)) ready.plan (subst (λ (t : Tree). HasNoOwn t (turns_plan x.turns) (turns_place x.turns)) ready.tree st.own) in
+    let plan = plan_at x.seat.home in
+    let place = turns_place x.turns in
+    let few = few_known x ready in
     let front = strip_left c.in-Some.strip in
     let rest = turns_left c.strip.new.self in
-    let f = shared_deed tree in
-    let here = strip_here f x ready (turns_place x.turns) (λ i there. shared_instance tree (plan_at x.seat.home) (turns_place x.turns) x.seat.processor i none there) front rest st.left in
+    let f = phase_deed tree plan place x.seat.processor in
+    let here = strip_here f x ready place (λ i there. own_instance tree plan place x.seat.processor i few there) front rest st.left in
     let held : AreHeld x.seat.home = subst AreHeld (sym c.requires.own) c.laws_of.ensures in
     let y = c.repeat.new.self in
     let did = c.repeat.ensures in
@@ -101,11 +111,11 @@ returns-clause-on c = λ _.
     let from = c.of-turns.ensures in
     let same : IsSameSeat x.seat y.seat = record { home = did.home; processor = did.processor } in
     let left_turns = st.left ∙ ap (λ t. map (runs (turns_place x.turns)) front ++ turns_left t) (sym did.turns) in
-    let before = ap (λ t. left_shared x.seat x.seat x.own (place_of x.seat t)) from ∙ here in
-    let behind = append_cancel_left (flat_map (instance_deeds (executor_tree x.executor)) front) (left_shared x.seat y.seat y.own (place_of y.seat turns + done)) (map f (deeds_in x.seat.home x.seat.processor rest)) (sym did.left ∙ before) in
-    let same_cells : map (shared_deed (tree_at y.seat.home)) (left_behind x.seat y.seat y.own (place_of y.seat x.turns + done)) ≡ map f (deeds_in x.seat.home x.seat.processor (turns_left y.turns)) =
-    sym (ap (λ t. left_shared x.seat y.seat y.own (place_of y.seat t + done)) from) ∙ behind ∙ ap (λ t. map f (deeds_in x.seat.home x.seat.processor (turns_left t))) (sym did.turns) in
-    let left = ap (λ (h : Home). map (shared_deed (tree_at h)) (left_behind x.seat y.seat y.own (place_of y.seat x.turns + done))) (sym did.home) ∙ same_cells in
+    let before = ap (λ t. left_seen t x.seat x.seat x.own (place_of x.seat t)) from ∙ here in
+    let behind = append_cancel_left (flat_map (instance_deeds (executor_tree x.executor)) front) (left_seen turns x.seat y.seat y.own (place_of y.seat turns + done)) (map f (deeds_in x.seat.home x.seat.processor rest)) (sym did.left ∙ before) in
+    let same_cells : map (phase_deed (tree_at y.seat.home) (plan_at y.seat.home) place y.seat.processor) (left_behind x.seat y.seat y.own (place_of y.seat x.turns + done)) ≡ map f (deeds_in x.seat.home x.seat.processor (turns_left y.turns)) =
+    sym (ap (λ t. left_seen t x.seat y.seat y.own (place_of y.seat t + done)) from) ∙ behind ∙ ap (λ t. map f (deeds_in x.seat.home x.seat.processor (turns_left t))) (sym did.turns) in
+    let left = (λ i. map (phase_deed (tree_at (sym did.home i)) (plan_at (sym did.home i)) place (sym did.processor i)) (left_behind x.seat y.seat y.own (place_of y.seat x.turns + done))) ∙ same_cells in
     let many = same_count f (left_behind x.seat y.seat y.own (place_of y.seat x.turns + done)) (deeds_in x.seat.home x.seat.processor (turns_left y.turns)) left in
     let some : 0 < length (map (runs (turns_place x.turns)) front) = (let count = length-map front (runs (turns_place x.turns)) in let many = st.some in omega (arith, count, many)) in
     turns_lead x ready held y (map (runs (turns_place x.turns)) front) done same left_turns (no_posts_run x.seat.home x.seat.processor (turns_place x.turns) front) many some (ap beginnings_left did.turns ∙ st.begins) did.answered
