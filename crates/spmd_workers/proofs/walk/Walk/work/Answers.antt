@@ -13,5 +13,5 @@ work_by-requires-clause-fits c =
     let none = c.is_empty.ensures (turns_tree t) own known c.if-is_empty.true in
     record { privates = none.0; sums = none.1 }
 
-pub work_by-2-requires-clause-fits : goal.work_by-2-requires-clause-fits
-work_by-2-requires-clause-fits c = c.requires.ready.sound.own.cells
+pub work_by-requires-else-is_empty-clause-fits : goal.work_by-requires-else-is_empty-clause-fits
+work_by-requires-else-is_empty-clause-fits c = c.requires.ready.sound.own.cells
