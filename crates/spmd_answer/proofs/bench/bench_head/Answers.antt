@@ -3,5 +3,5 @@ use Rattle.spmd_answer.proofs.bench.bench_head.Goals as goal
 
 pub returns : goal.returns
 returns c =
-    let counts = rw (c.waits_called.ensures, c.waits_called-2.ensures, c.waits_called-3.ensures, c.waits_called-4.ensures, c.waits_called-5.ensures, c.waits_called-6.ensures, c.waits_called-7.ensures, c.as_slice-kinds.ensures) at c.in_ok-writeln.ensures.bytes in
+    let counts = rw (c.words.ensures, c.as_slice.ensures) at c.in_ok-put_counts.ensures in
     search (rules, counts, append_assoc, append-nil)
