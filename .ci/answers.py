@@ -1,22 +1,29 @@
-"""Looks at what a program answers to sources, by a table: the command by answers.txt and for long
-inputs, the program that tells of plans by plans.txt.
+"""Looks at what programs answer to sources, by tables: the command by answers.txt and for long
+inputs, the program that tells of plans by plans.txt, the parts that are timed by parts.txt, and by
+said.txt and drawn.txt what the scripts say to a person.
 
 In a table `--- TITLE` begins a source, with a plan behind it or none. Behind it `$ WORDS` is a
 command on that source, with its status in brackets where that isn't 0, and behind the command, or
-several of them, stands what it writes; `[...]` in that stands for any text. Behind `~ OLD => NEW` the
-commands are on the source with this one change. What is told of a plan that is made was compared, up
-to its certificates, with another program that was written independently.
+several of them, stands what it writes; `[...]` in that stands for any text. `< FILE..` stands for what
+the files have, a source `< .` for a folder, of which each read fails. Behind these lines `> PART` is
+said on standard error, among other things, and of `| LINE`, once or more, these lines are said, each
+behind a name, and no others; `|` alone says that nothing is. Behind `~ OLD => NEW`, or several of
+them, the commands are on the source with these changes. A byte in a word may be written as \\xFF. What
+is told of a plan that is made was compared, up to its certificates, with another program that was
+written independently.
 
-    python3 .ci/answers.py PROGRAM [TABLE]
+    python3 .ci/answers.py PROGRAM TABLE..
 """
 
 import os
 import re
 import subprocess
 import sys
+import tempfile
+from concurrent.futures import ThreadPoolExecutor
 
-TABLE = f"{os.path.dirname(os.path.abspath(__file__))}/answers.txt"
 MOST_BYTES = 4194304
+FOLDER = "."
 
 
 def changed(source, line):
@@ -27,31 +34,51 @@ def changed(source, line):
     return source.replace(old, new, 1)
 
 
-def commands_in(source, lines):
-    """The commands of a case: of each its source, its words, its status and what it writes."""
-    now, words, wanted = source, [], []
-    for line in [*lines, "~"]:
-        if line[0] not in "$~":
-            wanted.append(line)
-            continue
-        if line[0] == "~" or wanted:
-            yield from ((now, it, status, "".join(wanted)) for status, it in words)
-            words, wanted = [], []
-        if line[0] == "$":
-            status, it = re.fullmatch(r"\$(?: \[(\d)\])?(.*)\n?", line).groups()
-            words.append((int(status or 0), it.split()))
-        elif line != "~":
-            now = changed(source, line)
+def text_of(lines):
+    """The lines, and what the files have that they name."""
+    return "".join("".join(map(read, it[1:].split())) if it[0] == "<" else it for it in lines)
 
 
-def table(path=TABLE):
-    """Each source with its title, as it stands in its first lines, and its commands."""
+def read(path):
+    if path == FOLDER:
+        return FOLDER
     with open(path, encoding="utf-8") as it:
-        cases = it.read().split("--- ")[1:]
-    for case in cases:
+        return it.read()
+
+
+def groups_of(lines):
+    """The lines in groups that begin with changes or with commands."""
+    group = []
+    for before, line in zip([" ", *lines], lines):
+        if group and line[0] in "$~" and line[0] != before[0] and (before[0], line[0]) != ("~", "$"):
+            yield group
+            group = []
+        group.append(line)
+    yield group
+
+
+def commands_in(source, lines):
+    """The commands of a case: of each its source, its words, its status, what it writes and says."""
+    now = source
+    for group in groups_of(lines):
+        if group[0][0] == "~":
+            now = source
+        for line in group:
+            now = changed(now, line) if line[0] == "~" else now
+        wanted = text_of(it for it in group if it[0] not in "$~>|")
+        said = [it.rstrip("\n") for it in group if it[0] in ">|"]
+        for line in group:
+            if line[0] == "$":
+                status, words = re.fullmatch(r"\$(?: \[(\d)\])?(.*)\n?", line).groups()
+                yield now, words.split(), int(status or 0), wanted, said
+
+
+def table(path):
+    """Each source with its title, as it stands in its first lines, and its commands."""
+    for case in read(path).split("--- ")[1:]:
         title, *lines = case.splitlines(keepends=True)
         first = next(at for at, line in enumerate(lines) if line[0] in "$~")
-        source = "".join(lines[:first])
+        source = text_of(lines[:first])
         yield title.strip(), source, [*commands_in(source, lines[first:])]
 
 
@@ -59,7 +86,7 @@ def source_of(*lines):
     return "".join(f"      {it}\n" for it in [*lines, "END"])
 
 
-def long_inputs():
+def long_inputs(path):
     """Inputs at their limits: a title, the source, and the commands on it."""
     yield "no line end behind END", "      PRINT *\n      END", [(["seq"], 0, "\n")]
     yield "nothing but line ends", "\n" * MOST_BYTES, [(["seq"], 1, "REFUSED L4 LINE [...]")]
@@ -97,7 +124,7 @@ def long_inputs():
         "C\n" * 2097000 + printed + "   10 A(I) = -I\n" + source_of("PRINT *, A"),
         [(["run", "--workers", "3", "--plan", "barrier", "--by", "core"], 0, "[...] -29999 -30000\n")],
     )
-    mirror = next(source for title, source, _ in table() if title == "a plan that is given, by core")
+    mirror = next(source for title, source, _ in table(path) if title == "a plan that is given, by core")
     front = mirror[: mirror.index("CERTIFICATES")]
     steps = "".join(f"{it} STEPS 1\n1 1*1 6*1 10*1 11*1\n" for it in range(1, 110001))
     yield (
@@ -122,24 +149,49 @@ def own_sources():
         yield ["bench", "--workers", workers, "2000", "200"], 0, "BENCH [...]\n -8 -3986014\n"
 
 
-def is_answered(program, title, source, words, status, wanted):
-    done = subprocess.run([program, *words], input=source.encode(), capture_output=True, timeout=60)
+def run(program, source, words):
+    """The program on a file with the source, or on a folder."""
+    with tempfile.TemporaryFile() as file:
+        file.write(source.encode())
+        file.seek(0)
+        place = os.open(FOLDER, os.O_RDONLY) if source == FOLDER else file.fileno()
+        plain = [it.encode().decode("unicode_escape").encode("latin-1") for it in words]
+        done = subprocess.run([program, *plain], stdin=place, capture_output=True, timeout=120)
+        if source == FOLDER:
+            os.close(place)
+    return done.returncode, done.stdout, done.stderr.decode(errors="replace")
+
+
+def is_said(told, said):
+    lines = [it[2:] for it in said if it[0] == "|"]
+    if lines and [re.sub("^[a-z-]+: ", "", it) for it in told.splitlines()] != [it for it in lines if it]:
+        return False
+    return all(it[2:] in told for it in said if it[0] == ">")
+
+
+def fault_in(program, title, source, words, status, wanted, said=()):
+    """What is wrong with the program's answer, or None."""
+    ended, out, told = run(program, source, words)
     form = ".*".join(re.escape(it) for it in wanted.split("[...]"))
-    if done.returncode == status and re.fullmatch(form.encode(), done.stdout, re.DOTALL):
-        return True
-    shown = done.stdout[:200].decode(errors="replace")
-    print(f"{title}: {' '.join(words)[:80]}: status {done.returncode} and not {status}, or not what is wanted: {shown}")
-    return False
+    if ended == status and re.fullmatch(form.encode(), out, re.DOTALL) and is_said(told, said):
+        return None
+    shown = out[:200].decode(errors="replace")
+    return f"{title}: {' '.join(words)[:80]}: status {ended} and not {status}, or not what is wanted: {shown}{told if said else ''}"
 
 
-def main(program, path=TABLE):
-    rows = [(title, *it) for title, _, its in table(path) for it in its]
-    if path == TABLE:
-        rows += [(title, source, *it) for title, source, its in long_inputs() for it in its]
-        rows += [(words[0], "", words, status, wanted) for words, status, wanted in own_sources()]
-    bad = sum(not is_answered(program, *row) for row in rows)
-    print(f"{len(rows)} commands, {bad} of them answered otherwise")
-    return 1 if bad or len(rows) < (200 if path == TABLE else 20) else 0
+def rows_of(path):
+    yield from ((title, *it) for title, _, its in table(path) for it in its)
+    if path.endswith("/answers.txt"):
+        yield from ((title, source, *it) for title, source, its in long_inputs(path) for it in its)
+        yield from ((words[0], "", words, status, wanted) for words, status, wanted in own_sources())
+
+
+def main(program, *paths):
+    rows = [it for path in paths for it in rows_of(path)]
+    with ThreadPoolExecutor(4) as runners:
+        faults = [it for it in runners.map(lambda row: fault_in(program, *row), rows) if it]
+    print(*faults, f"{len(rows)} commands, {len(faults)} of them answered otherwise", sep="\n")
+    return 1 if faults or len(rows) < 10 else 0
 
 
 if __name__ == "__main__":

@@ -1,7 +1,8 @@
 """Tries what bin/seagrynt tells of refused sources: hints.py [NAME..]
 
 Each pattern and each finder of bin/front/hints.py has a source here that is refused, with a part of
-what is told, and the text below which the caret stands, if one does; some have faults behind the first. The source's lines stand from
+what is told, and the text below which the caret stands, if one does; some have faults behind the first. And
+the options that bin/front/tell.py knows are those of the help. The source's lines stand from
 column 7 on where they begin with no blank, digit or `C`; END is added where there is none. The
 program is the one that is built.
 """
@@ -16,6 +17,7 @@ ROOT = os.path.dirname(os.path.dirname(os.path.abspath(__file__)))
 sys.dont_write_bytecode = True
 sys.path.insert(0, f"{ROOT}/bin/front")
 import hints  # noqa: E402
+import tell  # noqa: E402
 
 # the pattern's name, the source, a part of what is told, what stands above the caret
 CASES = [
@@ -280,8 +282,22 @@ def fault_in_all(text, wanted):
     return None if fits else "other faults are told behind the first"
 
 
+def options_faults():
+    """Of each command whose options in the help aren't those that bin/front/tell.py knows, both."""
+    with open(f"{ROOT}/.ci/help.txt", encoding="utf-8") as it:
+        helps = it.read()
+    for command, known in tell.OPTIONS.items():
+        told = helps[helps.index(f"\n$ {command} --help\n") + 1 :].split("\n$ ")[0]
+        listed = {*re.findall(r"(?m)^ +(?:-h, )?(--[a-z-]+)", told)} - {"--help", *tell.SCRIPT_WORDS}
+        if listed != {*known}:
+            yield f"{command}: the help has {sorted(listed)}, bin/front/tell.py {sorted(known)}"
+
+
 def main(names):
     failed = 0
+    for fault in options_faults():
+        failed += 1
+        print(fault)
     for text, wanted in ALL if not names or "all" in names else []:
         fault = fault_in_all(text, wanted)
         if fault:
