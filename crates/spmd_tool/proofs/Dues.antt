@@ -461,9 +461,9 @@ option_cases None = inl refl
 option_cases (Some w) = inr (w, refl)
 
 -- a refusal, or else something that is due without
-first_some : (o : Option Due) (IsElse : Due → Type 0) → (d : Due) × IsElse d → (d : Due) × IsFirstOr o IsElse d
-first_some None IsElse some = some
-first_some (Some r) IsElse some = (r, refl)
+due_or : (o : Option Due) (IsElse : Due → Type 0) → (d : Due) × IsElse d → (d : Due) × IsFirstOr o IsElse d
+due_or None IsElse some = some
+due_or (Some r) IsElse some = (r, refl)
 
 on_program : (w : Wanted) (tree : Tree) (at : Readings) (bytes : List ℕ) → behind_of w ≡ Comments → makes_plan w ≡ false → (d : Due) × IsDueOn w tree at bytes d
 on_program (sequential settings) tree at bytes e fixed = (done (output_of tree), written (output_of tree) refl refl)
@@ -478,8 +478,8 @@ on_program (bench workers points sweeps) tree at bytes e fixed = absurd (cc)
 some_for : (w : Wanted) (bytes : List ℕ) → behind_of w ≡ Comments → makes_plan w ≡ false → (d : Due) × IsDueFor w bytes d
 unfolding IsDueFor
 some_for w bytes e fixed =
-    first_some (due_of_form w bytes) (answer.IsDueOf w (settings_in (settings_of w)) bytes)
-    (first_some (refusal_for w bytes) (IsDueOn w (program_for w bytes) (readings_for w bytes) (behind_end bytes)) (on_program w (program_for w bytes) (readings_for w bytes) (behind_end bytes) e fixed))
+    due_or (due_of_form w bytes) (answer.IsDueOf w (settings_in (settings_of w)) bytes)
+    (due_or (refusal_for w bytes) (IsDueOn w (program_for w bytes) (readings_for w bytes) (behind_end bytes)) (on_program w (program_for w bytes) (readings_for w bytes) (behind_end bytes) e fixed))
 
 -- some status and text are due, where no plan may stand behind END and none is made
 pub some_due : (words : List Text) (bytes : List ℕ) → ((w : Wanted) → Takes words w → behind_of w ≡ Comments) → MakeNoPlan words → (due : Due) × IsDue words bytes due
