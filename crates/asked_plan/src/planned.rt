@@ -2,9 +2,7 @@
 
 ghost use Rattle.std.specs.Prelude.{◌≡◌, ◌≢◌, ◌≤◌, Some, IfErr, IfOk, OnOk, length, map};
 ghost use Rattle.f77_source.specs.Sources.{setting_of};
-ghost use Rattle.nest_tree.specs.Limits.{IsWithinLimits};
 ghost use Rattle.nest_tree.specs.View.{tree_of};
-ghost use Rattle.nest_tree.specs.WellFormed.{IsWellFormed};
 ghost use Rattle.plan_checker.specs.Accepted.{IsAccepted};
 ghost use Rattle.plan_checker.specs.declared.refusal.PlanRefusal.TheVariants as reasons;
 ghost use Rattle.plan_text.specs.PlanText.{HasCounts};
@@ -54,7 +52,6 @@ pub fn plan_program<R: Threads + Sync>(
     requires few { asked.now.workers ≤ 64 }
     ensures planned { IfOk result (λ p. IsPlanned asked.now.workers asked.now.choice bytes.now
         (map setting_of asked.now.settings.now) (tree_of p.program) p.plan) }
-    ensures formed { IfOk result (λ p. IsWellFormed (tree_of p.program)) }
     ensures accepted { IfOk result (λ p. IsAccepted (tree_of p.program) p.plan) }
     ensures fits { IfOk result (λ p. IsFit (tree_of p.program) p.plan) }
     ensures workers { IfOk result (λ p. p.plan.workers ≡ asked.now.workers) }
@@ -75,7 +72,6 @@ pub fn plan_behind(alloc: Global, settings: &[Setting], bytes: &[u8]) -> Result<
     requires { length bytes.now ≤ MOST_BYTES }
     ensures behind { IfOk result (λ p. IsBehind bytes.now (map setting_of settings.now)
         (tree_of p.program) p.plan) }
-    ensures formed { IfOk result (λ p. IsWellFormed (tree_of p.program)) }
     ensures refused { IfErr result (IsStopBehind bytes.now (map setting_of settings.now)) }
 {
     let (program, rest) = read_inside(alloc, bytes, settings, false)?;
@@ -104,8 +100,6 @@ pub fn plan_for<R: Threads + Sync>(
     bytes: &[u8],
 ) -> Result<Plan, Stop>
     requires short { length bytes.now ≤ MOST_BYTES }
-    requires formed { IsWellFormed (tree_of program.now) }
-    requires limits { IsWithinLimits (tree_of program.now) }
     requires some { 1 ≤ asked.now.workers }
     requires few { asked.now.workers ≤ 64 }
     ensures plan { IfOk result (IsPlanFor asked.now.choice asked.now.workers
@@ -137,8 +131,6 @@ pub fn given_plan<R: Threads + Sync>(
     asked: Option<u32>,
 ) -> Result<Plan, Stop>
     requires short { length bytes.now ≤ MOST_BYTES }
-    requires formed { IsWellFormed (tree_of program.now) }
-    requires limits { IsWithinLimits (tree_of program.now) }
     ensures taken { IfOk result (IsTaken asked (tree_of program.now) bytes.now) }
     ensures refused { IfErr result (IsRefused asked (tree_of program.now) bytes.now) }
 {
@@ -155,8 +147,6 @@ fn check_asked<R: Threads + Sync>(
     plan: &Plan,
     asked: Option<u32>,
 ) -> Result<(), PlanRefusal>
-    requires formed { IsWellFormed (tree_of program.now) }
-    requires limits { IsWithinLimits (tree_of program.now) }
     ensures workers { OnOk result (HasWorkers asked plan.now) }
     ensures accepted { OnOk result (IsAccepted (tree_of program.now) plan.now) }
     ensures refused { IfErr result (λ reason. reason ≢ reasons.NoMemory

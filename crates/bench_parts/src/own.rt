@@ -1,18 +1,11 @@
 // The instances of all phases, one by one.
 
-ghost use Rattle.nest_tree.specs.Limits.{IsWithinLimits};
-ghost use Rattle.nest_tree.specs.View.{tree_of};
-ghost use Rattle.nest_tree.specs.WellFormed.{IsWellFormed};
-
 use nest_tree::{Affine, Pairs, Program};
 use owner_partition::{Anchor, Cut, Dist, PhaseCursor, own_iterations};
 use std::alloc::Global;
 
 // How many instances of the phases have the one processor as their owner, by own iterations: all.
-pub(crate) fn count(alloc: Global, program: &Program, cut: &Cut) -> u64
-    requires formed { IsWellFormed (tree_of program.now) }
-    requires limits { IsWithinLimits (tree_of program.now) }
-{
+pub(crate) fn count(alloc: Global, program: &Program, cut: &Cut) -> u64 {
     let anchor = Anchor {
         form: Affine::new(0, Pairs::new(alloc), Pairs::new(alloc)),
         dist: Dist::Cyclic,

@@ -2,15 +2,13 @@
 
 ghost use Rattle.std.specs.Prelude.{◌≤◌, IfOk, length};
 ghost use Rattle.nest_model.specs.Ranges.{IsInRange};
-ghost use Rattle.nest_tree.specs.Limits.{IsWithinLimits};
 ghost use Rattle.nest_tree.specs.View.{tree_of};
-ghost use Rattle.nest_tree.specs.WellFormed.{IsWellFormed};
 
 use crate::measure::{Measure, measured, micros_since, now};
 use crate::own;
 use f77_lines::{MOST_BYTES, statements};
 use f77_source::read_program;
-use nest_tree::Program;
+use nest_tree::{Draft, Program};
 use plan_input::{Stop, read_fitting, read_source};
 use plan_text::{read_plan, write_plan};
 use range_check::check_ranges;
@@ -23,8 +21,6 @@ use std::alloc::{AllocError, Global};
 /// where the rest begins.
 pub(crate) fn read_inside(alloc: Global, bytes: &[u8]) -> Result<(Program, usize), Stop>
     requires { length bytes.now ≤ MOST_BYTES }
-    ensures formed { IfOk result (λ read. IsWellFormed (tree_of read.0)) }
-    ensures limits { IfOk result (λ read. IsWithinLimits (tree_of read.0)) }
     ensures ranges { IfOk result (λ read. IsInRange (tree_of read.0)) }
     ensures within { IfOk result (λ read. read.1 ≤ length bytes.now) }
 {
@@ -45,18 +41,18 @@ pub(crate) fn source(rt: &HostRuntime, bytes: &[u8]) -> Result<Measure, Stop>
     let (lines, _) = statements(alloc, bytes)?;
     let listed = micros_since(rt, &begun)?;
     let begun = now(rt)?;
-    let program = read_program(alloc, &lines, &[])?;
+    let draft = read_program(alloc, &lines, &[])?;
     let took = micros_since(rt, &begun)?;
     Ok(Measure {
         times: format!(in alloc; "lines {listed} program {took}")?,
-        text: counts(alloc, &program)?,
+        text: counts(alloc, &draft)?,
     })
 }
 
-fn counts(alloc: Global, program: &Program) -> Result<Vec<u8>, AllocError> {
-    let items = program.items.len();
-    let params = program.params.len();
-    let variables = program.variables.len();
+fn counts(alloc: Global, draft: &Draft) -> Result<Vec<u8>, AllocError> {
+    let items = draft.items.len();
+    let params = draft.params.len();
+    let variables = draft.variables.len();
     let line = format!(in alloc; "{items} {params} {variables}\n")?;
     Ok(line.into_bytes())
 }
@@ -111,8 +107,6 @@ pub(crate) fn machine(rt: &HostRuntime, bytes: &[u8]) -> Result<Measure, Stop>
 }
 
 fn round_robin(rt: &HostRuntime, program: &Program, text: &[u8]) -> Result<Measure, Stop>
-    requires formed { IsWellFormed (tree_of program.now) }
-    requires limits { IsWithinLimits (tree_of program.now) }
     requires ranges { IsInRange (tree_of program.now) }
     requires short { length text.now ≤ MOST_BYTES }
 {

@@ -2,9 +2,7 @@
 
 ghost use Rattle.std.specs.Prelude.{◌≤◌, IfOk, length};
 ghost use Rattle.nest_model.specs.Ranges.{IsInRange};
-ghost use Rattle.nest_tree.specs.Limits.{IsWithinLimits};
 ghost use Rattle.nest_tree.specs.View.{tree_of};
-ghost use Rattle.nest_tree.specs.WellFormed.{IsWellFormed};
 ghost use Rattle.sync_plan.specs.Fit.{IsFit};
 ghost use Rattle.sync_plan.specs.Ordered.{IsOrdered};
 
@@ -30,8 +28,6 @@ fn case_of<R: Threads + Sync>(
     bytes: &[u8],
 ) -> Result<(Program, Plan), Stop>
     requires { length bytes.now ≤ MOST_BYTES }
-    ensures formed { IfOk result (λ r. IsWellFormed (tree_of r.0)) }
-    ensures limits { IfOk result (λ r. IsWithinLimits (tree_of r.0)) }
     ensures ranges { IfOk result (λ r. IsInRange (tree_of r.0)) }
     ensures fits { IfOk result (λ r. IsFit (tree_of r.0) r.1) }
     ensures ordered { IfOk result (λ r. IsOrdered (tree_of r.0) r.1) }
@@ -49,8 +45,6 @@ fn read_accepted<R: Threads + Sync>(
     bytes: &[u8],
 ) -> Result<Plan, Stop>
     requires short { length bytes.now ≤ MOST_BYTES }
-    requires formed { IsWellFormed (tree_of program.now) }
-    requires limits { IsWithinLimits (tree_of program.now) }
     requires ranges { IsInRange (tree_of program.now) }
     ensures fits { IfOk result (IsFit (tree_of program.now)) }
     ensures ordered { IfOk result (IsOrdered (tree_of program.now)) }

@@ -3,7 +3,6 @@
 ghost use Rattle.std.specs.Prelude.{◌≡◌, ◌++◌, IfOk, None, OnOk, map};
 ghost use Rattle.std.specs.List.{flat_map};
 ghost use Rattle.nest_tree.specs.View.{tree_of};
-ghost use Rattle.nest_tree.specs.WellFormed.{IsWellFormed};
 ghost use Rattle.sync_plan.specs.Shape.{wrong_field};
 ghost use Rattle.comm_system.specs.GroupViews.{group_seen};
 ghost use Rattle.comm_system.specs.Obligations.{obligations_of};
@@ -58,7 +57,6 @@ pub fn obligations(
     program: &Program,
     plan: &Plan,
 ) -> Result<Vec<Obligation>, AllocError>
-    requires formed { IsWellFormed (tree_of program.now) }
     requires shape { wrong_field (tree_of program.now) plan.now ≡ None }
     ensures { IfOk result (λ found. found.items ≡ obligations_of (tree_of program.now) plan.now) }
 {

@@ -2,7 +2,7 @@
 
 ghost use Rattle.std.specs.Prelude.{◌≡◌, ◌<◌, ◌++◌, ℕ, List, [], ◌∷◌, IfOk, IsTrue, OnOk, length, map};
 ghost use Rattle.nest_tree.specs.View.{statement_of, statements_from, tree_of};
-ghost use Rattle.nest_tree.specs.WellFormed.{IsWellFormed, Scope, are_good_statements, is_good_statement};
+ghost use Rattle.nest_tree.specs.WellFormed.{Scope, are_good_statements, is_good_statement};
 ghost use Rattle.nest_walk.specs.Walks.{enters_but};
 ghost use Rattle.nest_rows.specs.Views.{heads_of};
 ghost use Rattle.conflict_rules.specs.References.{phases_among, phases_in, phases_of};
@@ -23,7 +23,6 @@ pub fn phases<'a>(
     program: &'a Program,
     cut: &Cut,
 ) -> Result<Vec<Phase<'a>>, AllocError>
-    requires { IsWellFormed (tree_of program.now) }
     ensures phases { IfOk result (λ found. map phase_seen found.items
         ≡ phases_of (tree_of program.now) cut.now.marks) }
     ensures few { IfOk result (λ found. length found.items < 400) }

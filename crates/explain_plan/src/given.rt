@@ -1,9 +1,7 @@
 // What is told of a plan that is given.
 
 ghost use Rattle.std.specs.Prelude.{◌≡◌, ◌≢◌, IfErr, IfOk, Some};
-ghost use Rattle.nest_tree.specs.Limits.{IsWithinLimits};
 ghost use Rattle.nest_tree.specs.View.{tree_of};
-ghost use Rattle.nest_tree.specs.WellFormed.{IsWellFormed};
 ghost use Rattle.sync_plan.specs.Fit.{IsFit};
 ghost use Rattle.plan_checker.specs.Failures.{first_failure};
 ghost use Rattle.plan_checker.specs.declared.refusal.PlanRefusal.TheVariants.{NoMemory};
@@ -26,8 +24,6 @@ pub fn account_of<R: Threads + Sync>(
     program: &Program,
     plan: Plan,
 ) -> Result<Account, PlanRefusal>
-    requires formed { IsWellFormed (tree_of program.now) }
-    requires limits { IsWithinLimits (tree_of program.now) }
     requires fits { IsFit (tree_of program.now) plan }
     ensures plan { IfOk result (λ a. a.plan ≡ plan) }
     ensures reasons { IfOk result (AreReasons (tree_of program.now)) }
@@ -46,7 +42,6 @@ fn account_of_refused(
     plan: Plan,
     refusal: PlanRefusal,
 ) -> Result<Account, PlanRefusal>
-    requires formed { IsWellFormed (tree_of program.now) }
     requires fits { IsFit (tree_of program.now) plan }
     requires first { refusal ≢ NoMemory → first_failure (tree_of program.now) plan ≡ Some refusal }
     ensures plan { IfOk result (λ a. a.plan ≡ plan) }

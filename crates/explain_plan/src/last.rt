@@ -1,9 +1,5 @@
 // The last store of an element in front of a load.
 
-ghost use Rattle.nest_tree.specs.Limits.{IsWithinLimits};
-ghost use Rattle.nest_tree.specs.View.{tree_of};
-ghost use Rattle.nest_tree.specs.WellFormed.{IsWellFormed};
-
 use comm_system::phase::Phase;
 use nest_tree::{Access, Item, Program};
 use nest_walk::{Instances, Path, value_at};
@@ -40,8 +36,6 @@ pub(crate) struct Setting<'s> {
     pub(crate) program: &'s Program,
     pub(crate) plan: &'s Plan,
     pub(crate) phases: &'s [Phase<'s>],
-    ghost formed: { IsWellFormed (tree_of program.now) },
-    ghost limits: { IsWithinLimits (tree_of program.now) },
 }
 
 // Whether an instance stands in a line, at these values of the loops.

@@ -3,9 +3,6 @@
 ghost use Rattle.std.specs.Prelude.{◌≡◌, ◌≤◌, IfErr, None, length};
 ghost use Rattle.f77_lines.specs.Listing.{first_line_fault};
 ghost use Rattle.f77_lines.specs.declared.refusal.LineRefusal.TheVariants.{NoMemory};
-ghost use Rattle.nest_tree.specs.Limits.{IsWithinLimits};
-ghost use Rattle.nest_tree.specs.View.{tree_of};
-ghost use Rattle.nest_tree.specs.WellFormed.{IsWellFormed};
 
 use crate::last::Setting;
 use crate::names::{LoopName, loop_names};
@@ -36,8 +33,6 @@ pub fn write_account(
     form: Form,
 ) -> Result<Vec<u8>, LineRefusal>
     requires short { length source.now ≤ MOST_BYTES }
-    requires formed { IsWellFormed (tree_of program.now) }
-    requires limits { IsWithinLimits (tree_of program.now) }
     requires faultless { first_line_fault source.now ≡ None }
     ensures { IfErr result (λ refusal. refusal ≡ NoMemory) }
 {

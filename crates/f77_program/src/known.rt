@@ -273,6 +273,14 @@ impl Known {
         Ok(())
     }
 
+    /// No loop has begun. What else is known stays so.
+    pub fn rewind(&mut self)
+        ensures { self.new ≡ record self.old { loops = 0; opened = [] } }
+    {
+        self.loops = 0;
+        self.opened.clear();
+    }
+
     /// Behind a DO statement with this variable and this label its loop is open.
     pub fn open(&mut self, alloc: Global, variable: &[u8], label: u64) -> Result<(), AllocError>
         requires { self.old.loops < 2 ^ 31 }

@@ -38,6 +38,6 @@ pub use limits::value_of;
 pub use measure::Measure;
 pub use names::Names;
 pub use parts::parts_of;
-pub use pass::{advance, pass_statement};
+pub use pass::pass_statement;
 pub use refusal::{Fault, Refusal};
 pub use whole::Whole;

@@ -6,16 +6,12 @@ ghost use Rattle.f77_scene.specs.Behind as behind;
 ghost use Rattle.f77_scene.specs.Limits as limits;
 ghost use Rattle.f77_scene.specs.Statements as statements;
 ghost use Rattle.f77_program.specs.Passed as spec;
-ghost use Rattle.f77_program.specs.Judged.{evaluated};
 ghost use Rattle.f77_program.specs.Pieces.{names_view};
-ghost use Rattle.f77_program.specs.Wholes.{given_of};
 
 use crate::declared::declarator_names;
 use crate::known::Known;
 use crate::limits::bounds_of;
 use crate::pieces::{names_in, pieces_in};
-use crate::survey::define;
-use crate::whole::Whole;
 use f77_forms::{Bound, Declarator, Statement};
 use std::alloc::{AllocError, Global};
 
@@ -41,39 +37,6 @@ pub fn pass_statement(
     enter(alloc, known, label, statement)?;
     let names = statement_names(alloc, known, statement)?;
     known.note(alloc, label, &names)?;
-    Ok(())
-}
-
-/// The statement with this label has no fault; behind it all that it says is known.
-pub fn advance(
-    alloc: Global,
-    whole: &Whole,
-    known: &mut Known,
-    label: u32,
-    statement: &Statement,
-) -> Result<(), AllocError>
-    requires { known.old.loops < 2 ^ 31 }
-    ensures { OnOk result (known.new ≡ behind.behind (given_of whole.now) known.old label
-        (view.statement_of statement.now)) }
-{
-    define_constants(alloc, whole, known, statement)?;
-    pass_statement(alloc, known, label, statement)?;
-    Ok(())
-}
-
-/// The names of a PARAMETER statement are known.
-fn define_constants(
-    alloc: Global,
-    whole: &Whole,
-    known: &mut Known,
-    statement: &Statement,
-) -> Result<(), AllocError>
-    ensures { OnOk result (known.new ≡ evaluated (given_of whole.now) known.old
-        (view.statement_of statement.now)) }
-{
-    if let Statement::Parameter(definitions) = statement {
-        let _ = define(alloc, whole, known, definitions.as_slice())?;
-    }
     Ok(())
 }
 

@@ -8,7 +8,7 @@ use Rattle.f77_lines.specs.declared.line.Line.{Line}
 use Rattle.f77_program.specs.declared.refusal.Refusal.{Refusal}
 use Rattle.f77_program.specs.declared.refusal.Refusal.TheVariants.{Statement, BadSetting, NoMemory}
 use Rattle.f77_scene.specs.Fault as scene
-use Rattle.f77_scene.specs.Reading.{SourceStatement, reading_of, statements_in, at_line, fault_with, scene_with, body_with, fault_from, scene_from, body_from}
+use Rattle.f77_scene.specs.Reading.{SourceStatement, reading_of, statements_in, directives_of, at_line, fault_with, scene_with, body_with, fault_from, scene_from, body_from}
 use Rattle.f77_scene.specs.Scene.{Name, Scene, Given}
 use Rattle.f77_scene.specs.Trees.{Body}
 use Rattle.f77_source.specs.Answers.{Refuses}
@@ -90,3 +90,10 @@ statements_in-directive line text = refl
 pub statements_in-none : statements_in [] ≡ []
 unfolding statements_in
 statements_in-none = refl
+
+-- ---- directives
+
+pub directives_of-push : (entries : List Entry) (e : Entry) → directives_of (entries ++ e ∷ []) ≡ directives_of entries ++ directives_of (e ∷ [])
+directives_of-push [] e = refl
+directives_of-push (statement line label text ∷ entries) e = directives_of-push entries e
+directives_of-push (directive line text ∷ entries) e = ap (λ texts. text ∷ texts) (directives_of-push entries e)

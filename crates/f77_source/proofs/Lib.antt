@@ -16,6 +16,8 @@ pub mod Valued
 pub mod Affined
 pub mod Treed
 pub mod Later
+pub mod Looked
+pub mod Staged
 pub mod Worked
 pub mod Nested
 pub mod Whole

@@ -7,3 +7,4 @@ pub mod Bodies
 pub mod Items
 pub mod Placings
 pub mod Arrays
+pub mod Stages

@@ -29,8 +29,7 @@ pub fn constants_are_values()
         → list_all is_good_constant program.params ≡ true }
 {}
 
-/// The program that bytes stand for is well formed, where the settings have values of 64 bits:
-/// calls on programs take it as it is.
+/// The program that bytes stand for is well formed, where the settings have values of 64 bits.
 pub fn programs_are_well_formed()
     ensures { (bytes : List ℕ) (settings : List (List ℕ × ℤ)) (program : Tree)
         → list_all (λ s. is_value s.1) settings ≡ true → Reads bytes settings program

@@ -1,12 +1,10 @@
 // How arrays are distributed.
 
-ghost use Rattle.std.specs.Prelude.{◌≡◌, ◌<◌, ◌+◌, map, reverse, IfOk};
-ghost use Rattle.f77_lines.specs.Listing.{entry_of};
+ghost use Rattle.std.specs.Prelude.{◌≡◌, ◌<◌, ◌+◌, reverse, IfOk};
+ghost use Rattle.f77_program.specs.Pieces.{names_view};
 ghost use Rattle.f77_scene.specs.Directives as directives;
-ghost use Rattle.f77_scene.specs.Reading.{directives_of};
 ghost use Rattle.f77_source.specs.Placings as spec;
 
-use f77_lines::Line;
 use f77_program::Names;
 use nest_tree::Spread;
 use std::alloc::{AllocError, Global};
@@ -24,17 +22,15 @@ const PLACINGS: [Placing; 6] = [
     (3, Spread::Cyclic),
 ];
 
-/// The texts of the directives, the last one first.
-pub fn directives_in(alloc: Global, lines: &[Line]) -> Result<Names, AllocError>
-    ensures { IfOk result (λ texts. texts ≡ reverse (directives_of (map entry_of lines.now))) }
+/// These texts, the last one first.
+pub fn from_last(alloc: Global, texts: &[&[u8]]) -> Result<Names, AllocError>
+    ensures { IfOk result (λ names. names ≡ reverse (names_view texts.now)) }
 {
-    let mut texts = Names::new(alloc);
-    for place in (0..lines.len()).rev() {
-        if let Line::Directive { line: _, text } = &lines[place] {
-            texts.push(alloc, text.as_slice())?;
-        }
+    let mut names = Names::new(alloc);
+    for place in (0..texts.len()).rev() {
+        names.push(alloc, texts[place])?;
     }
-    Ok(texts)
+    Ok(names)
 }
 
 /// How an array of so many dimensions is distributed: as the last directive says that speaks of

@@ -1,8 +1,9 @@
-// The statements of a source with their forms, and the settings.
+// What a source lists, its statements with their forms, and the settings.
 
 ghost use Rattle.std.specs.Prelude.{◌≡◌, ◌++◌, [], ◌∷◌, map, IfOk, OnOk, IsTrue};
 ghost use Rattle.f77_forms.specs.View as view;
 ghost use Rattle.f77_lines.specs.Listing.{entry_of};
+ghost use Rattle.f77_program.specs.Pieces.{names_view};
 ghost use Rattle.f77_program.specs.Wholes.{given_of, settings_of};
 ghost use Rattle.f77_scene.specs.Reading as reading;
 ghost use Rattle.f77_scene.specs.Statements as statements;
@@ -31,34 +32,66 @@ pub struct Source {
     pub reading: Result<Statement, TextFault>,
 }
 
-/// The statements that are listed.
-pub fn sources_in(alloc: Global, lines: &[Line]) -> Result<Vec<Source>, AllocError>
-    ensures { IfOk result (λ sources. map spec.source_of sources.items
-        ≡ reading.statements_in (map entry_of lines.now)) }
-{
-    let mut sources = Vec::new(alloc);
-    for line in lines {
-        push_source(alloc, &mut sources, line)?;
-    }
-    Ok(sources)
+/// What lines list.
+#[derive(Drop)]
+pub struct Contents<'a> {
+    pub sources: Vec<Source>,
+    /// The names in INTEGER statements, wherever these stand.
+    pub integers: Names,
+    /// The texts of directives.
+    pub directives: Vec<&'a [u8]>,
 }
 
-/// The statement that is listed here, if it is one.
-fn push_source(alloc: Global, sources: &mut Vec<Source>, line: &Line) -> Result<(), AllocError>
-    ensures { OnOk result (map spec.source_of sources.new.items
-        ≡ map spec.source_of sources.old.items ++ reading.statements_in (entry_of line.now ∷ [])) }
+/// What these lines list.
+pub fn contents_of(alloc: Global, lines: &[Line]) -> Result<Contents<'_>, AllocError>
+    ensures sources { IfOk result (λ c. map spec.source_of c.sources.items
+        ≡ reading.statements_in (map entry_of lines.now)) }
+    ensures integers { IfOk result (λ c. c.integers
+        ≡ reading.integers_among (map spec.source_of c.sources.items)) }
+    ensures directives { IfOk result (λ c. names_view c.directives.items
+        ≡ reading.directives_of (map entry_of lines.now)) }
+{
+    let mut contents = Contents {
+        sources: Vec::new(alloc),
+        integers: Names::new(alloc),
+        directives: Vec::new(alloc),
+    };
+    for line in lines {
+        push_line(alloc, line, &mut contents)?;
+    }
+    Ok(contents)
+}
+
+/// One line more.
+fn push_line<'a>(
+    alloc: Global,
+    line: &'a Line,
+    contents: &mut Contents<'a>,
+) -> Result<(), AllocError>
+    ensures sources { OnOk result (map spec.source_of contents.new.sources.items
+        ≡ map spec.source_of contents.old.sources.items
+        ++ reading.statements_in (entry_of line.now ∷ [])) }
+    ensures integers { OnOk result (contents.new.integers ≡ contents.old.integers
+        ++ reading.integers_among (reading.statements_in (entry_of line.now ∷ []))) }
+    ensures directives { OnOk result (names_view contents.new.directives.items
+        ≡ names_view contents.old.directives.items
+        ++ reading.directives_of (entry_of line.now ∷ [])) }
 {
     match line {
         Line::Statement { line, label, text } => {
-            let reading = reading_of(alloc, text.as_slice())?;
-            sources.push(Source {
+            let source = Source {
                 line: *line,
                 label: *label,
-                reading,
-            })?;
+                reading: reading_of(alloc, text.as_slice())?,
+            };
+            push_integers(alloc, &mut contents.integers, &source)?;
+            contents.sources.push(source)?;
             Ok(())
         }
-        Line::Directive { .. } => Ok(()),
+        Line::Directive { line: _, text } => {
+            contents.directives.push(text.as_slice())?;
+            Ok(())
+        }
     }
 }
 
@@ -75,18 +108,14 @@ fn reading_of(alloc: Global, text: &[u8]) -> Result<Result<Statement, TextFault>
     }
 }
 
-/// What holds of the whole source: the settings, and the names in INTEGER statements wherever
-/// they stand.
-pub fn whole_of(
-    alloc: Global,
-    sources: &[Source],
-    settings: &[Setting],
-) -> Result<Whole, AllocError>
-    ensures given { IfOk result (λ whole. given_of whole
-        ≡ reading.given_with (map spec.source_of sources.now) (map spec.setting_of settings.now)) }
+/// What holds of a whole source with these names in INTEGER statements.
+pub fn whole_of(alloc: Global, integers: Names, settings: &[Setting]) -> Result<Whole, AllocError>
+    ensures given { IfOk result (λ whole. given_of whole ≡ record {
+      settings = map spec.setting_of settings.now;
+      integers = integers;
+    }) }
     ensures values { OnOk result (IsTrue (spec.are_values (map spec.setting_of settings.now))) }
 {
-    let integers = integers_among(alloc, sources)?;
     let settings = last_first(alloc, settings)?;
     Ok(Whole { settings, integers })
 }
@@ -103,18 +132,6 @@ fn last_first(alloc: Global, settings: &[Setting]) -> Result<Constants, AllocErr
         constants.push(alloc, setting.name.as_slice(), setting.value)?;
     }
     Ok(constants)
-}
-
-/// The names in INTEGER statements.
-fn integers_among(alloc: Global, sources: &[Source]) -> Result<Names, AllocError>
-    ensures { IfOk result (λ names. names ≡ reading.integers_among
-        (map spec.source_of sources.now)) }
-{
-    let mut names = Names::new(alloc);
-    for source in sources {
-        push_integers(alloc, &mut names, source)?;
-    }
-    Ok(names)
 }
 
 /// The names in a statement, if it is an INTEGER statement.

@@ -7,7 +7,7 @@ use Rattle.nest_tree.specs.contracts.tree.Expr as Expr
 use Rattle.nest_tree.specs.contracts.tree.Item as Item
 use Rattle.nest_tree.specs.contracts.tree.Nest as Nest
 use Rattle.nest_tree.specs.contracts.tree.PrintItem as PrintItem
-use Rattle.nest_tree.specs.contracts.tree.Program as Program
+use Rattle.nest_tree.specs.contracts.program.Program as Program
 use Rattle.nest_tree.proofs.form.Affine.TheSendSync as affine
 use Rattle.nest_tree.proofs.tree.Access.TheSendSync as access
 use Rattle.nest_tree.proofs.tree.Guard.TheSendSync as guard

@@ -1,9 +1,7 @@
 // What a worker comes to.
 
 ghost use Rattle.std.specs.Prelude.{◌≡◌, ◌++◌, ◌∷◌, ◌<◌, ℕ, List, MatchOption, IfSome, None, Some, length, map};
-ghost use Rattle.nest_tree.specs.Limits.{IsWithinLimits};
 ghost use Rattle.nest_tree.specs.View.{tree_of};
-ghost use Rattle.nest_tree.specs.WellFormed.{IsWellFormed};
 ghost use Rattle.nest_walk.specs.RoundsOf.{rounds_of};
 ghost use Rattle.owner_partition.specs.Phases.{phases};
 ghost use Rattle.sync_plan.specs.Fit.{IsFit};
@@ -37,8 +35,6 @@ impl<'a> Cursor<'a> {
 
     /// All turns of a processor.
     pub fn new(program: &'a Program, plan: &'a Plan, processor: u32) -> Self
-        requires formed { IsWellFormed (tree_of program.now) }
-        requires limits { IsWithinLimits (tree_of program.now) }
         requires fits { IsFit (tree_of program.now) plan.now }
         requires worker { processor < plan.now.workers }
         ensures sound { IsCursor result }

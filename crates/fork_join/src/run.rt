@@ -1,9 +1,7 @@
 // The run.
 
 ghost use Rattle.std.specs.Prelude.{◌≡◌, ◌<◌, suc, IfOk, length};
-ghost use Rattle.nest_tree.specs.Limits.{IsWithinLimits};
 ghost use Rattle.nest_tree.specs.View.{tree_of};
-ghost use Rattle.nest_tree.specs.WellFormed.{IsWellFormed};
 ghost use Rattle.nest_tree.specs.Tree.{param_values};
 ghost use Rattle.nest_model.specs.Memory.{first_memory, last_memory, output_of};
 ghost use Rattle.nest_walk.specs.Tables.{IsCellTable};
@@ -46,8 +44,6 @@ pub fn run_join<R: Threads + Sync, G: Gate + Sync>(
     plan: &Plan,
     gate: &G,
 ) -> Result<(Receipt, Output), AllocError>
-    requires formed { IsWellFormed (tree_of program.now) }
-    requires limits { IsWithinLimits (tree_of program.now) }
     requires ranges { IsInRange (tree_of program.now) }
     requires fits { IsFit (tree_of program.now) plan.now }
     requires ordered { IsOrdered (tree_of program.now) plan.now }
@@ -88,7 +84,6 @@ fn params_of(alloc: Global, program: &Program) -> Result<Vec<i64>, AllocError>
 // whole output.
 fn workers_of<'a>(alloc: Global, lent: Lent<'a>) -> Result<Vec<CachePadded<Worker<'a>>>, AllocError>
     requires safe { IsSafe (tree_of lent.program.now) lent.plan.now }
-    requires limits { IsWithinLimits (tree_of lent.program.now) }
     requires table { IsCellTable (tree_of lent.program.now) lent.table.now }
     requires params { lent.params.now ≡ param_values (tree_of lent.program.now) }
     ensures count { IfOk result (λ v. length v.items ≡ lent.entry.plan.now.workers) }
@@ -106,8 +101,6 @@ fn workers_of<'a>(alloc: Global, lent: Lent<'a>) -> Result<Vec<CachePadded<Worke
 
 // The greatest number of bytes that a program can print.
 fn most_output(alloc: Global, program: &Program) -> Result<usize, AllocError>
-    requires formed { IsWellFormed (tree_of program.now) }
-    requires limits { IsWithinLimits (tree_of program.now) }
     ensures { IfOk result (λ n. n ≡ longest_output (tree_of program.now)) }
 {
     let mut closed = vec![in alloc; true; MOST_STATEMENTS]?;
@@ -125,7 +118,6 @@ fn execute<R: Threads + Sync, G: Gate + Sync>(
     gate: &G,
 )
     requires safe { IsSafe (tree_of lent.program.now) lent.plan.now }
-    requires limits { IsWithinLimits (tree_of lent.program.now) }
     requires count { length workers.old ≡ lent.plan.now.workers }
     requires at { AreAt (tree_of lent.program.now) lent.plan.now 0 workers.old }
     requires memory { memory.old ≡ first_memory (tree_of lent.program.now) }

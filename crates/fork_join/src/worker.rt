@@ -1,7 +1,6 @@
 // One worker of a run by fork and join.
 
 ghost use Rattle.std.specs.Prelude.{◌≡◌, ◌<◌, ◌≤◌, ℕ, suc, IfOk, length};
-ghost use Rattle.nest_tree.specs.Limits.{IsWithinLimits};
 ghost use Rattle.nest_tree.specs.Tree.{param_values};
 ghost use Rattle.nest_tree.specs.View.{tree_of};
 ghost use Rattle.nest_walk.specs.Tables.{IsCellTable};
@@ -65,7 +64,6 @@ impl<'a> Worker<'a> {
         room: usize,
     ) -> Result<Self, AllocError>
         requires safe { IsSafe (tree_of lent.program.now) lent.plan.now }
-        requires limits { IsWithinLimits (tree_of lent.program.now) }
         requires table { IsCellTable (tree_of lent.program.now) lent.table.now }
         requires params { lent.params.now ≡ param_values (tree_of lent.program.now) }
         requires below { processor < lent.plan.now.workers }

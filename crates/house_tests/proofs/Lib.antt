@@ -1,2 +1,1 @@
-mod Sharing
 pub mod StraightLine

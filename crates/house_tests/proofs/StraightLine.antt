@@ -17,7 +17,7 @@ use Rattle.spmd_model.specs.Protocols.{Protocol, act_at}
 use Rattle.spmd_model.specs.PlanProtocols.{acts_by, protocol_by}
 use Rattle.spmd_model.specs.declared.style.Style.TheVariants.{Arrive}
 use Rattle.nest_tree.specs.View.{tree_of}
-use Rattle.nest_tree.specs.declared.tree.Program.{Program}
+use Rattle.nest_tree.specs.declared.program.Program.{Program}
 use Rattle.sync_plan.specs.declared.plan.Plan.{Plan}
 use Rattle.shared_words.specs.Calls.{ArrivesNext, GathersNext, first_seat}
 use Rattle.shared_words.specs.Homes.{Home, gone, protocol_at, protocol_given}

@@ -2,9 +2,7 @@
 
 ghost use Rattle.std.specs.Prelude.{◌≡◌, ◌≤◌, ◌<◌, IfOk, length};
 ghost use Rattle.nest_model.specs.Ranges.{IsInRange};
-ghost use Rattle.nest_tree.specs.Limits.{IsWithinLimits};
 ghost use Rattle.nest_tree.specs.View.{tree_of};
-ghost use Rattle.nest_tree.specs.WellFormed.{IsWellFormed};
 ghost use Rattle.sync_plan.specs.Fit.{IsFit};
 ghost use Rattle.sync_plan.specs.Ordered.{IsOrdered};
 ghost use Rattle.crossbeam_utils.specs.Padded.{padded_value};
@@ -42,8 +40,6 @@ pub(crate) fn case_of<R: Threads + Sync>(
     alloc: Global,
     bytes: &[u8],
 ) -> Result<(Program, Plan), Fail>
-    ensures formed { IfOk result (λ r. IsWellFormed (tree_of r.0)) }
-    ensures limits { IfOk result (λ r. IsWithinLimits (tree_of r.0)) }
     ensures ranges { IfOk result (λ r. IsInRange (tree_of r.0)) }
     ensures fits { IfOk result (λ r. IsFit (tree_of r.0) r.1) }
     ensures ordered { IfOk result (λ r. IsOrdered (tree_of r.0) r.1) }
@@ -68,8 +64,6 @@ fn accepted<R: Threads + Sync>(
     program: &Program,
     bytes: &[u8],
 ) -> Result<Plan, Fail>
-    requires formed { IsWellFormed (tree_of program.now) }
-    requires limits { IsWithinLimits (tree_of program.now) }
     requires ranges { IsInRange (tree_of program.now) }
     requires short { length bytes.now ≤ MOST_BYTES }
     ensures fits { IfOk result (IsFit (tree_of program.now)) }
@@ -149,8 +143,6 @@ fn left_by_own<R: Threads + Sync>(
     program: &Program,
     plan: &Plan,
 ) -> Result<Left, Fail>
-    requires formed { IsWellFormed (tree_of program.now) }
-    requires limits { IsWithinLimits (tree_of program.now) }
     requires ranges { IsInRange (tree_of program.now) }
     requires fits { IsFit (tree_of program.now) plan.now }
     requires ordered { IsOrdered (tree_of program.now) plan.now }
@@ -197,8 +189,6 @@ fn legs_are(
     plan: &Plan,
     rows: &[(usize, Leg)],
 ) -> Result<(), Fail>
-    requires formed { IsWellFormed (tree_of program.now) }
-    requires limits { IsWithinLimits (tree_of program.now) }
     requires ranges { IsInRange (tree_of program.now) }
     requires fits { IsFit (tree_of program.now) plan.now }
     requires ordered { IsOrdered (tree_of program.now) plan.now }

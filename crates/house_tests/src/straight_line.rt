@@ -1,11 +1,13 @@
 // K = 20, K = K*2 + 2, PRINT *, 'K', K, and plans of two processors of which the first does everything.
 
 ghost use Rattle.std.specs.Prelude.{◌≡◌, IfOk};
-ghost use Rattle.nest_tree.specs.View.{expression_of, tree_of};
+ghost use Rattle.nest_tree.specs.View.{expression_of, tree_of, tree_of_draft};
 ghost use Rattle.std.specs.Prelude.{[]};
 ghost use Rattle.house_tests.specs.StraightLine.{doubled, first_owns, line, plan_with};
 
-use nest_tree::{Access, Affine, Expr, Item, Listed, Pairs, PrintItem, Program, Spread, Variable};
+use nest_tree::{
+    Access, Affine, Draft, Expr, Item, Listed, Pairs, PrintItem, Program, Spread, Variable,
+};
 use owner_partition::{Anchor, Cut, Dist};
 use std::alloc::{AllocError, Global};
 use sync_plan::{Conditions, Kind, Plan, Version};
@@ -35,6 +37,15 @@ fn more(alloc: Global) -> Result<Expr, AllocError>
 pub fn line(alloc: Global) -> Result<Program, AllocError>
     ensures { IfOk result (λ p. tree_of p ≡ line) }
 {
+    match line_draft(alloc)?.limited() {
+        Ok(program) => Ok(program),
+        Err(_) => unreachable!(),
+    }
+}
+
+fn line_draft(alloc: Global) -> Result<Draft, AllocError>
+    ensures { IfOk result (λ d. tree_of_draft d ≡ line) }
+{
     let shown = vec![in alloc;
         PrintItem::Text(vec![in alloc; b'K']?),
         PrintItem::Value(Expr::Load(k(alloc))),
@@ -50,7 +61,7 @@ pub fn line(alloc: Global) -> Result<Program, AllocError>
         Item::Assign(k(alloc), more(alloc)?, None, 1),
         Item::Print(shown, 1),
     ]?;
-    Ok(Program {
+    Ok(Draft {
         items,
         params: Vec::new(alloc),
         variables: vec![in alloc; scalar]?,

@@ -2,10 +2,8 @@
 
 ghost use Rattle.std.specs.Prelude.{◌≡◌, ◌+◌, ◌≤◌, ◌<◌, ℕ, [], ◌∷◌, ◌++◌, IfOk, IsTrue, List, length, map, nat_lt, take};
 ghost use Rattle.std.specs.List.{flat_map, list_all};
-ghost use Rattle.nest_tree.specs.Limits.{IsWithinLimits};
 ghost use Rattle.nest_tree.specs.Tree.{Assignment, assign, param_values, work};
 ghost use Rattle.nest_tree.specs.View.{statement_of, tree_of};
-ghost use Rattle.nest_tree.specs.WellFormed.{IsWellFormed};
 ghost use Rattle.nest_walk.specs.RoundsOf.{rounds_of};
 ghost use Rattle.nest_walk.specs.Tables.{IsCellTable};
 ghost use Rattle.flat_code.specs.Lines.{cell_on};
@@ -63,8 +61,6 @@ impl<'a> Executor<'a> {
         params: &'a [i64],
         room: usize,
     ) -> Result<Self, AllocError>
-        requires formed { IsWellFormed (tree_of program.now) }
-        requires limits { IsWithinLimits (tree_of program.now) }
         requires table { IsCellTable (tree_of program.now) table.now }
         requires params { params.now ≡ param_values (tree_of program.now) }
         ensures can { IfOk result (λ x. CanExecute x) }

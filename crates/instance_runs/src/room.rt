@@ -2,9 +2,7 @@
 
 ghost use Rattle.std.specs.Prelude.{◌≡◌, ◌+◌, ◌*◌, ◌≤◌, ℕ, IfSome, Some, length, map, slice_get, sum_by};
 ghost use Rattle.nest_tree.specs.Layout.{bounds_of, element_count};
-ghost use Rattle.nest_tree.specs.Limits.{IsWithinLimits};
 ghost use Rattle.nest_tree.specs.View.{printed_of, statement_of, statements_from, tree_of};
-ghost use Rattle.nest_tree.specs.WellFormed.{IsWellFormed};
 ghost use Rattle.nest_model.specs.Instances.{works_in, works_of};
 ghost use Rattle.nest_model.specs.Visits.{visits};
 ghost use Rattle.nest_walk.specs.Tables.{IsCellTable, entries};
@@ -74,8 +72,6 @@ fn values_of(loads: &[LoadCells]) -> Option<usize>
 /// The greatest number of bytes that the PRINTs where a walk stops can write, if it can be counted.
 /// The walk enters the loops that aren't marked.
 pub fn longest_output(program: &Program, closed: &[bool]) -> Option<usize>
-    requires formed { IsWellFormed (tree_of program.now) }
-    requires limits { IsWithinLimits (tree_of program.now) }
     ensures { IfSome result (λ n. n ≡ sum_by (visit_room (tree_of program.now))
         (visits (tree_of program.now) (enters_but closed.now))) }
 {
@@ -91,7 +87,6 @@ pub fn longest_output(program: &Program, closed: &[bool]) -> Option<usize>
 
 // The greatest number of bytes that the line of a PRINT can have, if it can be counted.
 fn longest_line(program: &Program, items: &[PrintItem]) -> Option<usize>
-    requires { IsWellFormed (tree_of program.now) }
     ensures { IfSome result (λ n. n ≡ longest_items (tree_of program.now) (map printed_of items.now)
         + 1) }
 {
@@ -103,7 +98,6 @@ fn longest_line(program: &Program, items: &[PrintItem]) -> Option<usize>
 }
 
 fn longest_item(program: &Program, item: &PrintItem) -> Option<usize>
-    requires { IsWellFormed (tree_of program.now) }
     ensures { IfSome result (λ n. n ≡ longest_item (tree_of program.now) (printed_of item.now)) }
 {
     match item {
@@ -116,7 +110,6 @@ fn longest_item(program: &Program, item: &PrintItem) -> Option<usize>
 // The greatest number of bytes that the elements of the variable with this number, from 1, can
 // take, if it is there and they can be counted.
 fn longest_array(program: &Program, variable: u32) -> Option<usize>
-    requires { IsWellFormed (tree_of program.now) }
     ensures { IfSome result (λ n. n
         ≡ 21 * element_count (bounds_of (tree_of program.now) variable)) }
 {

@@ -2,10 +2,9 @@
 
 ghost use Rattle.std.specs.Prelude.{◌≡◌, ◌≤◌, ◌<◌, ◌-◌, ◌==◌, IfOk, IfSome, IsTrue, Some, slice_get, length};
 ghost use Rattle.std.specs.List.{list_any};
-ghost use Rattle.nest_tree.specs.Limits.{IsWithinLimits};
 ghost use Rattle.nest_tree.specs.Loads.{loads_among, loads_in};
 ghost use Rattle.nest_tree.specs.View.{declaration_of, expression_of, expressions_from, statement_of, statements_from, tree_of};
-ghost use Rattle.nest_tree.specs.WellFormed.{IsWellFormed, loops_of};
+ghost use Rattle.nest_tree.specs.WellFormed.{loops_of};
 ghost use Rattle.nest_walk.specs.Texts.{placed};
 ghost use Rattle.owner_partition.specs.Marks.{enters_outer};
 ghost use Rattle.owner_partition.specs.Placement.{phase_ends};
@@ -29,8 +28,6 @@ pub fn anchors_of(
     cut: &Cut,
     workers: u32,
 ) -> Result<Vec<Anchor>, AllocError>
-    requires formed { IsWellFormed (tree_of program.now) }
-    requires limits { IsWithinLimits (tree_of program.now) }
     requires some { 1 ≤ workers }
     ensures { IfOk result (λ anchors. anchors.items
         ≡ maker_anchors (tree_of program.now) cut.now.marks workers) }
@@ -55,8 +52,6 @@ fn phase_anchor(
     number: u32,
     phase: &StaticPhase,
 ) -> Result<Anchor, AllocError>
-    requires formed { IsWellFormed (tree_of program.now) }
-    requires limits { IsWithinLimits (tree_of program.now) }
     requires some { 1 ≤ workers }
     requires phase { slice_get (placed (tree_of program.now) (enters_outer cut.now.marks))
         (number - 1)
@@ -90,8 +85,6 @@ pub fn element_owner(
     phase: &StaticPhase,
     access: &Access,
 ) -> Result<Option<Anchor>, AllocError>
-    requires formed { IsWellFormed (tree_of program.now) }
-    requires limits { IsWithinLimits (tree_of program.now) }
     requires some { 1 ≤ plan.now.workers }
     requires phase { slice_get (placed (tree_of program.now) (enters_outer plan.now.cut.marks))
         (number - 1)
@@ -123,8 +116,6 @@ fn found_anchor(
     cut: &Cut,
     number: u32,
 ) -> Result<Option<Anchor>, AllocError>
-    requires formed { IsWellFormed (tree_of scope.program.now) }
-    requires limits { IsWithinLimits (tree_of scope.program.now) }
     requires some { 1 ≤ scope.workers }
     requires own { IfSome scope.own (λ n. (1 ≤ n)
         × (n ≤ loops_of (tree_of scope.program.now).items)) }
@@ -142,8 +133,6 @@ fn found_anchor(
 
 // The anchor, or the same places in turn where blocks of them would be left.
 fn placed(program: &Program, cut: &Cut, workers: u32, number: u32, anchor: Anchor) -> Anchor
-    requires formed { IsWellFormed (tree_of program.now) }
-    requires limits { IsWithinLimits (tree_of program.now) }
     requires given { IsTrue (is_given anchor.form (loops_of (tree_of program.now).items)
         (length (tree_of program.now).params)) }
     ensures { result ≡ placed_anchor (tree_of program.now) cut.now.marks workers number
@@ -367,8 +356,6 @@ fn own_anchor(
     cut: &Cut,
     number: u32,
 ) -> Result<Option<Anchor>, AllocError>
-    requires formed { IsWellFormed (tree_of scope.program.now) }
-    requires limits { IsWithinLimits (tree_of scope.program.now) }
     requires some { 1 ≤ scope.workers }
     requires own { IfSome scope.own (λ n. (1 ≤ n)
         × (n ≤ loops_of (tree_of scope.program.now).items)) }
@@ -401,8 +388,6 @@ fn span_of(
     phase: u32,
     number: u32,
 ) -> Result<(i128, u128), AllocError>
-    requires formed { IsWellFormed (tree_of program.now) }
-    requires limits { IsWithinLimits (tree_of program.now) }
     requires one { 1 ≤ number }
     requires there { number ≤ loops_of (tree_of program.now).items }
     ensures { IfOk result (λ span. span

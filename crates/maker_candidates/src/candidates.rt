@@ -1,9 +1,7 @@
 //! The candidates in front of each phase.
 
 ghost use Rattle.std.specs.Prelude.{◌≡◌, ◌≤◌, ◌<◌, ◌^◌, ◌+◌, ◌++◌, IfOk, OnOk, length, map};
-ghost use Rattle.nest_tree.specs.Limits.{IsWithinLimits};
 ghost use Rattle.nest_tree.specs.View.{tree_of};
-ghost use Rattle.nest_tree.specs.WellFormed.{IsWellFormed};
 ghost use Rattle.sync_plan.specs.declared.plan.Kind.TheVariants.{Producer};
 ghost use Rattle.conflict_rules.specs.References.{phases_of};
 ghost use Rattle.comm_system.specs.PhaseViews.{phase_seen};
@@ -56,8 +54,6 @@ pub fn all_candidates(
     plan: &Plan,
     phases: &[Phase],
 ) -> Result<Vec<Listed<Kind>>, AllocError>
-    requires formed { IsWellFormed (tree_of program.now) }
-    requires limits { IsWithinLimits (tree_of program.now) }
     requires some { 1 ≤ plan.now.workers }
     requires phases { map phase_seen phases.now
         ≡ phases_of (tree_of program.now) plan.now.cut.marks }

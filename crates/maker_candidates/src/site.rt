@@ -1,9 +1,6 @@
 // A phase of a plan.
 
 ghost use Rattle.std.specs.Prelude.{◌≤◌};
-ghost use Rattle.nest_tree.specs.Limits.{IsWithinLimits};
-ghost use Rattle.nest_tree.specs.View.{tree_of};
-ghost use Rattle.nest_tree.specs.WellFormed.{IsWellFormed};
 
 use comm_system::phase::Phase;
 use nest_tree::Program;
@@ -16,7 +13,5 @@ pub(crate) struct Site<'b, 'a> {
     pub(crate) plan: &'b Plan,
     pub(crate) number: u32,
     pub(crate) phase: &'b Phase<'a>,
-    ghost formed: { IsWellFormed (tree_of program.now) },
-    ghost limits: { IsWithinLimits (tree_of program.now) },
     ghost some: { 1 ≤ plan.now.workers },
 }

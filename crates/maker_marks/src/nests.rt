@@ -4,7 +4,7 @@ ghost use Rattle.std.specs.Prelude.{◌≡◌, ◌≤◌, IfSome, Some, option_m
 ghost use Rattle.std.specs.Option.{option_copied};
 ghost use Rattle.nest_tree.specs.Prints.{have_print};
 ghost use Rattle.nest_tree.specs.View.{statement_of, statements_from, tree_of};
-ghost use Rattle.nest_tree.specs.WellFormed.{IsWellFormed, loops_of};
+ghost use Rattle.nest_tree.specs.WellFormed.{loops_of};
 ghost use Rattle.maker_marks.specs.Tries.{body_among, body_at, body_in, nest_body};
 
 use nest_tree::{Item, Nest, Program};
@@ -53,7 +53,6 @@ fn nest_at(nest: &Nest, number: u32) -> Option<&Nest>
 
 /// The loop with this number, from 1.
 pub fn nest_of(program: &Program, number: u32) -> &Nest
-    requires formed { IsWellFormed (tree_of program.now) }
     requires some { 1 ≤ number }
     requires there { number ≤ loops_of (tree_of program.now).items }
     ensures body { body_among number (tree_of program.now).items ≡ Some (nest_body result.now) }

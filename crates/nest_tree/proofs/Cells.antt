@@ -6,7 +6,7 @@ use Rattle.std.proofs.lemmas.Bool.Decides.{nat_tests}
 use Rattle.std.proofs.Math.Seq.{get_or-take}
 use Rattle.std.proofs.lemmas.List.{get_or-map, length-map}
 use Rattle.std.proofs.lemmas.List.Sums.{AllPass-from_list_all}
-use Rattle.nest_tree.specs.declared.tree.Program.{Program}
+use Rattle.nest_tree.specs.declared.program.Program.{Program}
 use Rattle.nest_tree.specs.declared.tree.Variable.{Variable}
 use Rattle.nest_tree.specs.Tree.{Declaration, Tree}
 use Rattle.nest_tree.specs.Layout.{bounds_at, cells_in, element_count}

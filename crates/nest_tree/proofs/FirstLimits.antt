@@ -7,11 +7,13 @@ use Rattle.nest_tree.specs.declared.limits.Limit.{Limit}
 use Rattle.nest_tree.specs.declared.limits.Limit.TheVariants.{TooMuchWork, TooManyCells}
 use Rattle.nest_tree.specs.declared.tree.Item.{Item}
 use Rattle.nest_tree.specs.declared.tree.Parameter.{Parameter}
-use Rattle.nest_tree.specs.declared.tree.Program.{Program}
+use Rattle.nest_tree.specs.declared.tree.Variable.{Variable}
+use Rattle.nest_tree.specs.declared.program.Program.{Program}
 use Rattle.nest_tree.specs.Given.{are_all_given}
 use Rattle.nest_tree.specs.Layout.{cell_count}
 use Rattle.nest_tree.specs.Limits.{IsWithinLimits, capped, first_limit, most_cells, most_work, no_ends, too_many_cells, too_much_work, too_wide, wide_of, work_estimate, work_of}
 use Rattle.nest_tree.specs.Tree.{Tree, Constant, param_values}
+use Rattle.nest_tree.specs.Nodes.{tree_with}
 use Rattle.nest_tree.specs.View.{constant_of, statements_from, tree_of}
 use Rattle.nest_tree.specs.WellFormed.{IsWellFormed}
 use Rattle.nest_tree.proofs.Good.{all-given, loops-few}
@@ -94,22 +96,30 @@ kept tree h =
       most_counted = at_most most_cells (cell_count tree) (TooManyCells (capped (cell_count tree))) second.1;
     }
 
--- the same as the code reads a program
+-- the same as the code reads the parts of a program
+module _ (stated : List Item) (known : List Parameter) (declared : List Variable) (ends : List (ℤ × ℤ)) (constants : List Parameter) (items : List Item) (none : ends ≡ no_ends) (params : constants ≡ known) (statements : items ≡ stated) where
+  values : map (λ (q : Parameter). q.value) constants ≡ param_values (tree_with stated known declared)
+  values = ap (map (λ (q : Parameter). q.value)) params ∙ sym (values_of_constants known)
+
+  pub parts-wide : wide_of (map (λ (q : Parameter). q.value) constants) ends (statements_from items) ≡ too_wide (tree_with stated known declared)
+  parts-wide =
+      ap (λ vs. wide_of vs ends (statements_from items)) values ∙ ap (λ es. wide_of (param_values (tree_with stated known declared)) es (statements_from items)) none ∙ ap (λ xs. wide_of (param_values (tree_with stated known declared)) no_ends (statements_from xs)) statements
+
+  pub parts-work : work_of (map (λ (q : Parameter). q.value) constants) ends 1 (statements_from items) ≡ work_estimate (tree_with stated known declared)
+  parts-work =
+      ap (λ vs. work_of vs ends 1 (statements_from items)) values ∙ ap (λ es. work_of (param_values (tree_with stated known declared)) es 1 (statements_from items)) none ∙ ap (λ xs. work_of (param_values (tree_with stated known declared)) no_ends 1 (statements_from xs)) statements
+
+  pub parts-given : IsWellFormed (tree_with stated known declared) → IsTrue (are_all_given (length ends) (length constants) (statements_from items))
+  parts-given w =
+      let long : length ends ≡ 400 = ap length none ∙ no_ends-length in
+      let many : length constants ≡ length (tree_with stated known declared).params = ap length params ∙ sym (length-map known constant_of) in
+      let given = all-given (tree_with stated known declared) 400 w (omega (arith, loops-few (tree_with stated known declared) w)) in
+      ap (λ n. are_all_given n (length constants) (statements_from items)) long ∙ ap (λ n. are_all_given 400 n (statements_from items)) many ∙ ap (λ xs. are_all_given 400 (length (tree_with stated known declared).params) (statements_from xs)) statements ∙ given
+
+-- the same of a program
 module _ (p : Program) (ends : List (ℤ × ℤ)) (constants : List Parameter) (items : List Item) (none : ends ≡ no_ends) (params : constants ≡ p.params.items) (statements : items ≡ p.items.items) where
-  values : map (λ (q : Parameter). q.value) constants ≡ param_values (tree_of p)
-  values = ap (map (λ (q : Parameter). q.value)) params ∙ sym (values_of_constants p.params.items)
-
   pub read-wide : wide_of (map (λ (q : Parameter). q.value) constants) ends (statements_from items) ≡ too_wide (tree_of p)
-  read-wide =
-      ap (λ vs. wide_of vs ends (statements_from items)) values ∙ ap (λ es. wide_of (param_values (tree_of p)) es (statements_from items)) none ∙ ap (λ xs. wide_of (param_values (tree_of p)) no_ends (statements_from xs)) statements
-
-  pub read-work : work_of (map (λ (q : Parameter). q.value) constants) ends 1 (statements_from items) ≡ work_estimate (tree_of p)
-  read-work =
-      ap (λ vs. work_of vs ends 1 (statements_from items)) values ∙ ap (λ es. work_of (param_values (tree_of p)) es 1 (statements_from items)) none ∙ ap (λ xs. work_of (param_values (tree_of p)) no_ends 1 (statements_from xs)) statements
+  read-wide = parts-wide p.items.items p.params.items p.variables.items ends constants items none params statements
 
   pub read-given : IsWellFormed (tree_of p) → IsTrue (are_all_given (length ends) (length constants) (statements_from items))
-  read-given w =
-      let long : length ends ≡ 400 = ap length none ∙ no_ends-length in
-      let many : length constants ≡ length (tree_of p).params = ap length params ∙ sym (length-map p.params.items constant_of) in
-      let given = all-given (tree_of p) 400 w (omega (arith, loops-few (tree_of p) w)) in
-      ap (λ n. are_all_given n (length constants) (statements_from items)) long ∙ ap (λ n. are_all_given 400 n (statements_from items)) many ∙ ap (λ xs. are_all_given 400 (length (tree_of p).params) (statements_from xs)) statements ∙ given
+  read-given = parts-given p.items.items p.params.items p.variables.items ends constants items none params statements

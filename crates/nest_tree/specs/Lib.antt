@@ -1,6 +1,7 @@
 pub mod Values
 pub mod Form
 pub mod Tree
+pub mod Nodes
 pub mod View
 pub mod Guards
 pub mod Layout

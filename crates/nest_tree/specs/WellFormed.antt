@@ -1,4 +1,4 @@
--- Well-formed programs: what the reader promises of each tree, and what every call above asks for.
+-- Well-formed programs: what the reader promises of each tree, and what each `Program` is.
 use Rattle.std.specs.Prelude.{ℕ, ◌+◌, ◌-◌, ℤ, Bool, true, false, ◌&&◌, ◌==◌, nat_lt, nat_le, int_le, IsTrue, List, [], ◌∷◌, length, map, unsigned_abs, slice_index_or, pos, negsuc, Option, Some, None}
 use Rattle.std.specs.List.{list_all, list_any}
 use Rattle.nest_tree.specs.declared.tree.Access.{Access}

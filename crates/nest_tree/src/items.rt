@@ -5,7 +5,8 @@ ghost use Rattle.nest_tree.specs.Prints.{has_print, have_print};
 ghost use Rattle.nest_tree.specs.View.{statement_of, statements_from, tree_of};
 ghost use Rattle.nest_tree.specs.WellFormed.{loops_in, loops_of};
 
-use crate::tree::{Item, Program};
+use crate::program::Program;
+use crate::tree::Item;
 
 impl Program {
     /// How many loops the program has.

@@ -5,9 +5,10 @@ ghost use Rattle.std.specs.List.{list_all};
 ghost use Rattle.nest_tree.specs.Layout.{are_inside, bounds_of, cell_count, cell_of, count_of, element_count, element_place, extent, first_cell, is_inside};
 ghost use Rattle.nest_tree.specs.LaidOut.{laid_out};
 ghost use Rattle.nest_tree.specs.View.{declaration_of, tree_of};
-ghost use Rattle.nest_tree.specs.WellFormed.{IsWellFormed, is_good_declaration, is_good_dimension};
+ghost use Rattle.nest_tree.specs.WellFormed.{is_good_declaration, is_good_dimension};
 
-use crate::tree::{Program, Variable};
+use crate::program::Program;
+use crate::tree::Variable;
 
 /// The cells of a program's variables.
 #[derive(Drop)]
@@ -42,8 +43,6 @@ impl Variable {
 impl Layout<'_> {
     /// The first cell, from 0, of the variable with this number, from 1.
     pub fn first_cell(&self, variable: u32) -> u32
-        requires well_formed { IsWellFormed (laid_out self.now) }
-        requires cells { cell_count (laid_out self.now) ≤ 1048576 }
         requires low { 1 ≤ variable }
         requires high { variable ≤ length (laid_out self.now).variables }
         ensures { result ≡ first_cell (laid_out self.now) variable }
@@ -58,8 +57,6 @@ impl Layout<'_> {
     /// The cell, from 0, of an element of the variable with this number, from 1; a scalar has no
     /// subscripts. Arrays lie in column-major order (ANSI X3.9-1978, 5.2.5).
     pub fn cell_of(&self, variable: u32, subscripts: &[i64]) -> u32
-        requires well_formed { IsWellFormed (laid_out self.now) }
-        requires cells { cell_count (laid_out self.now) ≤ 1048576 }
         requires low { 1 ≤ variable }
         requires high { variable ≤ length (laid_out self.now).variables }
         requires as_many { length subscripts.now ≡ length (bounds_of (laid_out self.now) variable) }

@@ -12,12 +12,12 @@ pub mod items;
 pub mod layout;
 pub mod limits;
 pub mod listed;
+pub mod program;
 pub mod tree;
 
 pub use form::{Affine, Pairs, constant_sum, product};
 pub use layout::Layout;
-pub use limits::{Limit, program_limits};
+pub use limits::Limit;
 pub use listed::Listed;
-pub use tree::{
-    Access, Compare, Expr, Guard, Item, Nest, Parameter, PrintItem, Program, Spread, Variable,
-};
+pub use program::{Draft, Program};
+pub use tree::{Access, Compare, Expr, Guard, Item, Nest, Parameter, PrintItem, Spread, Variable};

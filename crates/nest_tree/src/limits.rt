@@ -1,21 +1,22 @@
 // The limits of a program: how far its forms reach, how much work there is, and how many cells.
 
 ghost use Rattle.std.specs.Prelude.{◌≡◌, ◌+◌, ◌≤◌, ◌^◌, ◌++◌, [], ◌∷◌, IfOk, IsTrue, Some, None, if◌then◌else◌, length, map};
-ghost use Rattle.std.specs.List.{flat_map};
+ghost use Rattle.std.specs.List.{flat_map, list_all};
 ghost use Rattle.std.specs.Result.{result_err, result_ok};
 ghost use Rattle.nest_tree.specs.Form.{is_given, is_small};
 ghost use Rattle.nest_tree.specs.Given.{are_all_given, are_given, are_loads_given, is_all_given};
 ghost use Rattle.nest_tree.specs.Intervals.{form_interval, head_interval};
-ghost use Rattle.nest_tree.specs.Layout.{cell_count};
+ghost use Rattle.nest_tree.specs.Layout.{cell_count, cells_in};
 ghost use Rattle.nest_tree.specs.Limits.{capped, first_limit, no_ends, wide_at, wide_end, wide_forms, wide_in, wide_loads, wide_of, work_in, work_of};
 ghost use Rattle.nest_tree.specs.LimitText.{text_of_limit};
 ghost use Rattle.nest_tree.specs.Loads.{guard_forms, loads_in, loads_among, loads_in_item, subscript_forms};
-ghost use Rattle.nest_tree.specs.View.{expression_of, expressions_from, head_of, loop_of, printed_of, statement_of, statements_from, tree_of};
-ghost use Rattle.nest_tree.specs.WellFormed.{IsWellFormed};
+ghost use Rattle.nest_tree.specs.View.{declaration_of, expression_of, expressions_from, head_of, loop_of, printed_of, statement_of, statements_from, tree_of, tree_of_draft};
+ghost use Rattle.nest_tree.specs.WellFormed.{IsWellFormed, is_good_declaration};
 
 use crate::form::Affine;
 use crate::layout::extent;
-use crate::tree::{Access, Expr, Guard, Item, Nest, Parameter, PrintItem, Program};
+use crate::program::{Draft, Program};
+use crate::tree::{Access, Expr, Guard, Item, Nest, Parameter, PrintItem, Variable};
 use std::fmt;
 
 /// A limit that a program passes.
@@ -54,27 +55,27 @@ const CAP: u128 = 1 << 64;
 // No program has so many loops.
 const MOST_STATEMENTS: usize = 400;
 
-/// The first limit that the program passes: of its forms in text order, the low end before the
+/// The first limit that the draft passes: of its forms in text order, the low end before the
 /// high one; then that of the work; then that of the cells. It takes no memory.
-pub fn program_limits(program: &Program) -> Result<(), Limit>
-    requires { IsWellFormed (tree_of program.now) }
-    ensures { result_err result ≡ first_limit (tree_of program.now) }
+pub(crate) fn draft_limits(draft: &Draft) -> Result<(), Limit>
+    requires { IsWellFormed (tree_of_draft draft.now) }
+    ensures { result_err result ≡ first_limit (tree_of_draft draft.now) }
 {
     let mut ends = [(0, 0); MOST_STATEMENTS];
-    check_program(program, &mut ends)
+    check_draft(draft, &mut ends)
 }
 
-// The first limit that the program passes, where no loop has an interval yet.
-fn check_program(program: &Program, ends: &mut [(i64, i64)]) -> Result<(), Limit>
-    requires well_formed { IsWellFormed (tree_of program.now) }
+// The first limit that the draft passes, where no loop has an interval yet.
+fn check_draft(draft: &Draft, ends: &mut [(i64, i64)]) -> Result<(), Limit>
+    requires well_formed { IsWellFormed (tree_of_draft draft.now) }
     requires ends { ends.old ≡ no_ends }
-    ensures { result_err result ≡ first_limit (tree_of program.now) }
+    ensures { result_err result ≡ first_limit (tree_of_draft draft.now) }
 {
-    let work = statements_work(&program.items, ends, &program.params, 1)?;
+    let work = statements_work(&draft.items, ends, &draft.params, 1)?;
     if work > MOST_WORK {
         return Err(Limit::TooMuchWork(work));
     }
-    let cells = program.cell_count();
+    let cells = capped_cells(&draft.variables);
     if cells > MOST_CELLS {
         return Err(Limit::TooManyCells(cells));
     }
@@ -84,15 +85,22 @@ fn check_program(program: &Program, ends: &mut [(i64, i64)]) -> Result<(), Limit
 impl Program {
     /// How many cells the program has; past 2^64 it counts as 2^64.
     pub fn cell_count(&self) -> u128
-        requires { IsWellFormed (tree_of self.now) }
         ensures { result ≡ capped (cell_count (tree_of self.now)) }
     {
-        let mut cells = 0;
-        for variable in &self.variables {
-            cells = (cells + variable.element_count()).min(CAP);
-        }
-        cells
+        capped_cells(&self.variables)
     }
+}
+
+// How many cells variables have; past 2^64 they count as 2^64.
+fn capped_cells(variables: &[Variable]) -> u128
+    requires { IsTrue (list_all is_good_declaration (map declaration_of variables.now)) }
+    ensures { result ≡ capped (cells_in (map declaration_of variables.now)) }
+{
+    let mut cells = 0;
+    for variable in variables {
+        cells = (cells + variable.element_count()).min(CAP);
+    }
+    cells
 }
 
 // The interval of a form, or its first end past plus or minus 2147483647.

@@ -155,11 +155,3 @@ pub struct Variable {
     /// `Block` for a scalar.
     pub spread: Spread,
 }
-
-/// A program: its statements, its named constants and its variables, the latter two numbered from 1 as they stand here. Variables stand in the order of their cells.
-#[derive(Drop)]
-pub struct Program {
-    pub items: Vec<Item>,
-    pub params: Vec<Parameter>,
-    pub variables: Vec<Variable>,
-}

@@ -2,10 +2,9 @@
 
 ghost use Rattle.std.specs.Prelude.{◌≡◌, ◌-◌, ◌<◌, ◌+ℤ◌, ◌-ℤ◌, ◌*ℤ◌, IsTrue, length, map, pos};
 ghost use Rattle.std.specs.List.{list_all};
-ghost use Rattle.nest_tree.specs.Limits.{IsWithinLimits};
 ghost use Rattle.nest_tree.specs.Values.{wrapped};
 ghost use Rattle.nest_tree.specs.View.{tree_of};
-ghost use Rattle.nest_tree.specs.WellFormed.{IsWellFormed, is_good_access, is_good_dimension, scope_of};
+ghost use Rattle.nest_tree.specs.WellFormed.{is_good_access, is_good_dimension, scope_of};
 ghost use Rattle.nest_tree.specs.declared.tree.Parameter.{Parameter};
 ghost use Rattle.nest_walk.specs.Places.{IsThere, cell_among, numbers_of, place_among};
 ghost use Rattle.nest_walk.specs.RoundsOf.{rounds_of};
@@ -27,8 +26,6 @@ impl CellForm {
 
     /// The form of an access inside these loops, whatever their values.
     pub fn of_access(program: &Program, access: &Access, path: &Path) -> Self
-        requires formed { IsWellFormed (tree_of program.now) }
-        requires limits { IsWithinLimits (tree_of program.now) }
         requires good { IsTrue (is_good_access (scope_of (tree_of program.now))
             (numbers_of (rounds_of path.now)) access.now) }
         ensures { IsCellForm (tree_of program.now) access.now
@@ -75,8 +72,6 @@ impl CellForm {
 
 // The cell of an access on a path, modulo 2^64.
 fn cell_on(program: &Program, access: &Access, path: &Path) -> i64
-    requires formed { IsWellFormed (tree_of program.now) }
-    requires limits { IsWithinLimits (tree_of program.now) }
     requires there { IsThere (tree_of program.now) access.now }
     ensures { result ≡ wrapped (cell_among (tree_of program.now) access.now (rounds_of path.now)) }
 {

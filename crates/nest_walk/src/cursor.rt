@@ -65,9 +65,8 @@ impl<'a> Cursor<'a> {
     ghost use Rattle.nest_tree.specs.Loads.{guard_forms};
     ghost use Rattle.nest_walk.specs.Paths.{Round};
     ghost use Rattle.nest_walk.specs.Walkable.{is_small_at};
-    ghost use Rattle.nest_tree.specs.Limits.{IsWithinLimits};
     ghost use Rattle.nest_tree.specs.View.{statement_of, statements_from};
-    ghost use Rattle.nest_tree.specs.WellFormed.{IsWellFormed, is_number_of, loops_of};
+    ghost use Rattle.nest_tree.specs.WellFormed.{is_number_of, loops_of};
     ghost use Rattle.nest_model.specs.Visits.{every, stops_in, visits, visits_in, visits_of};
     ghost use Rattle.nest_walk.specs.Cursors.{is_reached, left_of, loops_in, marks_in, moves_to_go, rounds_in, tree_in, visit_at, visits_at};
     ghost use Rattle.nest_walk.specs.Frames.{head_of};
@@ -78,8 +77,6 @@ impl<'a> Cursor<'a> {
 
     /// The walk of a program, which stops at the loops that are marked, by their numbers from 1.
     pub fn new(program: &'a Program, marks: &'a [bool]) -> Self
-        requires formed { IsWellFormed (tree_of program.now) }
-        requires limits { IsWithinLimits (tree_of program.now) }
         ensures visits { left_of result ≡ visits (tree_of program.now) (enters_but marks.now) }
         ensures program { tree_in result ≡ tree_of program.now }
         ensures marks { marks_in result ≡ marks.now }

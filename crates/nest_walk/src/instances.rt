@@ -2,10 +2,8 @@
 
 ghost use Rattle.std.specs.Prelude.{◌≡◌, [], ◌∷◌, ◌++◌, ◌<◌, IfSome, IsTrue, MatchOption, length};
 ghost use Rattle.std.specs.List.{All, Contains, flat_map};
-ghost use Rattle.nest_tree.specs.Limits.{IsWithinLimits};
 ghost use Rattle.nest_tree.specs.Tree.{param_values};
 ghost use Rattle.nest_tree.specs.View.{tree_of, statement_of, statements_from};
-ghost use Rattle.nest_tree.specs.WellFormed.{IsWellFormed};
 ghost use Rattle.nest_model.specs.Instances.{Instance, head_trips, instances, instances_in, instances_of, with_loop};
 ghost use Rattle.nest_model.specs.Visits.{every, instances_at};
 ghost use Rattle.nest_walk.specs.Cursors.{is_reached, loops_in, visit_at};
@@ -36,8 +34,6 @@ impl<'a> Instances<'a> {
 
     /// All instances.
     pub fn new(program: &'a Program) -> Self
-        requires formed { IsWellFormed (tree_of program.now) }
-        requires limits { IsWithinLimits (tree_of program.now) }
         ensures instances { instances_left result ≡ instances (tree_of program.now) }
         ensures program { instances_tree result ≡ tree_of program.now }
     {

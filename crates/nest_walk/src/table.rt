@@ -2,10 +2,9 @@
 
 ghost use Rattle.std.specs.Prelude.{◌≡◌, ℕ, ◌-◌, ◌≤◌, [], ◌∷◌, IfOk, IsTrue, List, OnOk, Some, length, map, slice_get};
 ghost use Rattle.std.specs.List.{flat_map, list_all};
-ghost use Rattle.nest_tree.specs.Limits.{IsWithinLimits};
 ghost use Rattle.nest_tree.specs.Loads.{loads_among, loads_in};
 ghost use Rattle.nest_tree.specs.View.{expression_of, expressions_from, printed_of, statement_of, statements_from, tree_of};
-ghost use Rattle.nest_tree.specs.WellFormed.{IsWellFormed, are_good_expressions, are_good_statements, is_good_access, is_good_expression, is_good_item, is_good_statement, scope_of};
+ghost use Rattle.nest_tree.specs.WellFormed.{are_good_expressions, are_good_statements, is_good_access, is_good_expression, is_good_item, is_good_statement, scope_of};
 ghost use Rattle.nest_model.specs.Visits.{every};
 ghost use Rattle.nest_walk.specs.Grown.{GrewBy};
 ghost use Rattle.nest_walk.specs.Places.{numbers_of};
@@ -43,8 +42,6 @@ pub struct CellTable {
 impl CellTable {
     /// The table of a program.
     pub fn new(alloc: Global, program: &Program) -> Result<Self, AllocError>
-        requires formed { IsWellFormed (tree_of program.now) }
-        requires limits { IsWithinLimits (tree_of program.now) }
         ensures { IfOk result (λ table. IsCellTable (tree_of program.now) table) }
     {
         let mut works = Vec::new(alloc);
@@ -71,8 +68,6 @@ fn push_works(
     path: &Path,
     works: &mut Vec<WorkCells>,
 ) -> Result<(), AllocError>
-    requires formed { IsWellFormed (tree_of program.now) }
-    requires limits { IsWithinLimits (tree_of program.now) }
     requires good { (first : ℕ)
         × IsTrue (are_good_statements (scope_of (tree_of program.now))
         (numbers_of (rounds_of path.now)) first (statements_from items.now)) }
@@ -94,8 +89,6 @@ fn push_item_works(
     path: &Path,
     works: &mut Vec<WorkCells>,
 ) -> Result<(), AllocError>
-    requires formed { IsWellFormed (tree_of program.now) }
-    requires limits { IsWithinLimits (tree_of program.now) }
     requires good { (first : ℕ)
         × IsTrue (is_good_statement (scope_of (tree_of program.now))
         (numbers_of (rounds_of path.now)) first (statement_of item.now)) }
@@ -129,8 +122,6 @@ fn assigned_cells(
     value: &Expr,
     path: &Path,
 ) -> Result<WorkCells, AllocError>
-    requires formed { IsWellFormed (tree_of program.now) }
-    requires limits { IsWithinLimits (tree_of program.now) }
     requires target { IsTrue (is_good_access (scope_of (tree_of program.now))
         (numbers_of (rounds_of path.now)) target.now) }
     requires value { IsTrue (is_good_expression (scope_of (tree_of program.now))
@@ -154,8 +145,6 @@ fn printed_cells(
     items: &[PrintItem],
     path: &Path,
 ) -> Result<WorkCells, AllocError>
-    requires formed { IsWellFormed (tree_of program.now) }
-    requires limits { IsWithinLimits (tree_of program.now) }
     requires good { IsTrue
         (list_all (is_good_item (scope_of (tree_of program.now)) (numbers_of (rounds_of path.now)))
         (map printed_of items.now)) }
@@ -176,8 +165,6 @@ fn push_item_cells(
     path: &Path,
     loads: &mut Vec<LoadCells>,
 ) -> Result<(), AllocError>
-    requires formed { IsWellFormed (tree_of program.now) }
-    requires limits { IsWithinLimits (tree_of program.now) }
     requires good { IsTrue (is_good_item (scope_of (tree_of program.now))
         (numbers_of (rounds_of path.now)) (printed_of item.now)) }
     ensures { OnOk result
@@ -196,8 +183,6 @@ fn push_item_cells(
 
 // The cells of the variable with this number, from 1.
 fn whole_cells(program: &Program, variable: u32) -> LoadCells
-    requires formed { IsWellFormed (tree_of program.now) }
-    requires limits { IsWithinLimits (tree_of program.now) }
     requires low { 1 ≤ variable }
     requires high { variable ≤ length (tree_of program.now).variables }
     ensures { (around : List ℕ)
@@ -219,8 +204,6 @@ fn push_loads(
     path: &Path,
     loads: &mut Vec<LoadCells>,
 ) -> Result<(), AllocError>
-    requires formed { IsWellFormed (tree_of program.now) }
-    requires limits { IsWithinLimits (tree_of program.now) }
     requires good { IsTrue (is_good_expression (scope_of (tree_of program.now))
         (numbers_of (rounds_of path.now)) (expression_of e.now)) }
     ensures { OnOk result
@@ -252,8 +235,6 @@ fn push_all_loads(
     path: &Path,
     loads: &mut Vec<LoadCells>,
 ) -> Result<(), AllocError>
-    requires formed { IsWellFormed (tree_of program.now) }
-    requires limits { IsWithinLimits (tree_of program.now) }
     requires good { IsTrue (are_good_expressions (scope_of (tree_of program.now))
         (numbers_of (rounds_of path.now)) (expressions_from arguments.now)) }
     ensures { OnOk result

@@ -3,7 +3,6 @@
 ghost use Rattle.std.specs.Prelude.{◌≡◌, None, length};
 ghost use Rattle.std.specs.Io.Iter.{u64_saturate};
 ghost use Rattle.nest_tree.specs.View.{tree_of};
-ghost use Rattle.nest_tree.specs.WellFormed.{IsWellFormed};
 ghost use Rattle.sync_plan.specs.Shape.{wrong_field};
 ghost use Rattle.comm_system.specs.Obligations.{obligations_of};
 
@@ -15,7 +14,6 @@ use sync_plan::Plan;
 
 /// How many obligations a plan has; 2^64 - 1 where there are more. It takes no memory.
 pub fn obligation_count(program: &Program, plan: &Plan) -> u64
-    requires formed { IsWellFormed (tree_of program.now) }
     requires shape { wrong_field (tree_of program.now) plan.now ≡ None }
     ensures { result ≡ u64_saturate (length (obligations_of (tree_of program.now) plan.now)) }
 {

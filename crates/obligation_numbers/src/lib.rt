@@ -7,7 +7,6 @@
 
 ghost use Rattle.std.specs.Prelude.{◌≡◌, ◌-◌, ◌≤◌, IfOk, None, slice_get};
 ghost use Rattle.nest_tree.specs.View.{tree_of};
-ghost use Rattle.nest_tree.specs.WellFormed.{IsWellFormed};
 ghost use Rattle.sync_plan.specs.Shape.{wrong_field};
 ghost use Rattle.comm_system.specs.GroupViews.{group_seen};
 ghost use Rattle.comm_system.specs.Obligations.{obligation_numbered, obligations_of};
@@ -59,7 +58,6 @@ pub fn obligation_at(
     plan: &Plan,
     number: u64,
 ) -> Result<Option<Obligation>, AllocError>
-    requires formed { IsWellFormed (tree_of program.now) }
     requires shape { wrong_field (tree_of program.now) plan.now ≡ None }
     ensures { IfOk result (λ found. found
         ≡ obligation_numbered number (obligations_of (tree_of program.now) plan.now)) }

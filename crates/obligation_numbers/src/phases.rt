@@ -3,7 +3,7 @@
 ghost use Rattle.std.specs.Prelude.{◌≡◌, ◌+◌, ◌-◌, ◌<◌, ◌≤◌, ◌^◌, ℕ, List, IsTrue, length};
 ghost use Rattle.std.specs.Io.Iter.{u64_saturate};
 ghost use Rattle.nest_tree.specs.View.{statement_of, statements_from, tree_of};
-ghost use Rattle.nest_tree.specs.WellFormed.{IsWellFormed, Scope, are_good_statements, is_good_statement, statement_count, statements_in};
+ghost use Rattle.nest_tree.specs.WellFormed.{Scope, are_good_statements, is_good_statement, statement_count, statements_in};
 ghost use Rattle.nest_model.specs.Visits.{stops_in, stops_of};
 ghost use Rattle.nest_rows.specs.Views.{heads_of};
 ghost use Rattle.nest_walk.specs.Walks.{enters_but};
@@ -33,7 +33,6 @@ struct Sum {
 
 // What the static phases of a program weigh; past 64 bits the greatest number.
 pub(crate) fn phases_weight<W: PhaseWeight>(weight: &W, program: &Program, cut: &Cut) -> u64
-    requires { IsWellFormed (tree_of program.now) }
     ensures { result
         ≡ u64_saturate
         (sum_from (W.weight weight.now) 1 (phases_of (tree_of program.now) cut.now.marks)) }

@@ -1,8 +1,5 @@
 // What is counted: a program with a plan, a phase of it, and two phases.
 
-ghost use Rattle.nest_tree.specs.View.{tree_of};
-ghost use Rattle.nest_tree.specs.WellFormed.{IsWellFormed};
-
 use comm_system::level::Level;
 use nest_tree::Program;
 use owner_partition::StaticPhase;
@@ -13,7 +10,6 @@ use sync_plan::Plan;
 pub(crate) struct Scene<'x> {
     pub(crate) program: &'x Program,
     pub(crate) plan: &'x Plan,
-    ghost formed: { IsWellFormed (tree_of program.now) },
 }
 
 // A static phase, by its number.

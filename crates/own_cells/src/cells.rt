@@ -5,8 +5,6 @@ ghost use Rattle.std.specs.List.{position};
 ghost use Rattle.std.specs.Option.{option_map};
 ghost use Rattle.own_scalars.specs.OwnScalars.{is_of};
 ghost use Rattle.nest_tree.specs.View.{tree_of};
-ghost use Rattle.nest_tree.specs.WellFormed.{IsWellFormed};
-ghost use Rattle.nest_tree.specs.Layout.{cell_count};
 ghost use Rattle.own_cells.specs.OwnCells.{IsScalarNumber, cells_of};
 
 use arrayvec::ArrayVec;
@@ -58,8 +56,6 @@ impl OwnCells {
     /// Those of a phase that is this loop. It takes no memory, and goes through the body of a Sum loop
     /// once for each scalar.
     pub fn of_loop(program: &Program, cut: &Cut, nest: &Nest) -> Self
-        requires formed { IsWellFormed (tree_of program.now) }
-        requires cells { cell_count (tree_of program.now) ≤ 1048576 }
         requires few { AreFew (tree_of program.now) (own_loop_of cut.now (loop_of nest.now)) }
         ensures { AreOwnCells (tree_of program.now)
             (own_loop_of cut.now (loop_of nest.now)) result }
@@ -159,8 +155,6 @@ fn place_in(numbers: &[u32], wanted: u32) -> Option<usize>
 
 // The cells of some scalars.
 fn cells_of(program: &Program, scalars: &[u32]) -> ArrayVec<u32, MOST_OWN>
-    requires formed { IsWellFormed (tree_of program.now) }
-    requires cells { cell_count (tree_of program.now) ≤ 1048576 }
     requires few { length scalars.now ≤ 16 }
     requires scalars { All (IsScalarNumber (tree_of program.now)) scalars.now }
     ensures { result.items ≡ cells_of (tree_of program.now) scalars.now }

@@ -15,7 +15,7 @@ use Rattle.nest_tree.specs.WellFormed.{IsWellFormed, is_number_of, loops_of}
 use Rattle.nest_tree.specs.declared.tree.Item.{Item}
 use Rattle.nest_tree.specs.declared.tree.Item.TheVariants.{Loop}
 use Rattle.nest_tree.specs.declared.tree.Nest.{Nest}
-use Rattle.nest_tree.specs.declared.tree.Program.{Program}
+use Rattle.nest_tree.specs.declared.program.Program.{Program}
 use Rattle.nest_tree.specs.View.{loop_of, statement_of, statements_from, tree_of}
 use Rattle.nest_tree.proofs.Rows.{statement_of-Loop, statements_more}
 use Rattle.nest_model.specs.Instances.{Instance as Executed, head_trips, no_values, with_loop, works_in}

@@ -2,10 +2,8 @@
 
 ghost use Rattle.std.specs.Prelude.{◌≡◌, ◌<◌, ◌≤◌, ℕ, [], ◌∷◌, IsTrue, MatchOption, length};
 ghost use Rattle.nest_tree.specs.Form.{reach_within};
-ghost use Rattle.nest_tree.specs.Limits.{IsWithinLimits};
 ghost use Rattle.nest_tree.specs.Tree.{param_values};
 ghost use Rattle.nest_tree.specs.View.{tree_of};
-ghost use Rattle.nest_tree.specs.WellFormed.{IsWellFormed};
 ghost use Rattle.nest_model.specs.Instances.{Instance as Executed};
 ghost use Rattle.nest_model.specs.Visits.{Visit};
 ghost use Rattle.owner_partition.specs.declared.anchor.Dist.TheVariants.{Block};
@@ -66,8 +64,6 @@ pub fn own_iterations<'a>(
     p: u32,
     workers: u32,
 ) -> OwnCursor<'a>
-    requires formed { IsWellFormed (tree_of program.now) }
-    requires limits { IsWithinLimits (tree_of program.now) }
     requires phase { (v : Visit)
         × IsPhaseOf (tree_of program.now) (enters_outer cut.now.marks) v phase.now }
     requires outside { (v : Visit)

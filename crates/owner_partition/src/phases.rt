@@ -48,9 +48,7 @@ impl<'a> PhaseCursor<'a> {
     ghost use Rattle.owner_partition.specs.OwnInstances.{names_no_inner};
     ghost use Rattle.owner_partition.specs.Owners.{anchor_owner, has_places, own_instances};
     ghost use Rattle.std.specs.Prelude.{min};
-    ghost use Rattle.nest_tree.specs.Limits.{IsWithinLimits};
     ghost use Rattle.nest_tree.specs.View.{tree_of};
-    ghost use Rattle.nest_tree.specs.WellFormed.{IsWellFormed};
     ghost use Rattle.nest_model.specs.Visits.{Visit};
     ghost use Rattle.owner_partition.specs.Marks.{enters_outer};
     ghost use Rattle.owner_partition.specs.Phases.{phases};
@@ -58,8 +56,6 @@ impl<'a> PhaseCursor<'a> {
 
     /// All phases of a program.
     pub fn new(program: &'a Program, cut: &'a Cut) -> Self
-        requires formed { IsWellFormed (tree_of program.now) }
-        requires limits { IsWithinLimits (tree_of program.now) }
         ensures phases { phases_left result ≡ phases (tree_of program.now) cut.now.marks }
         ensures passed { phases_passed result ≡ 0 }
         ensures last { phase_last result ≡ None }

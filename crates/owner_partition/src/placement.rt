@@ -6,9 +6,9 @@ ghost use Rattle.std.specs.Result.{result_err};
 ghost use Rattle.nest_tree.specs.Form.{is_given, reach_within, rises_above};
 ghost use Rattle.nest_tree.specs.Given.{are_all_given, are_given, is_all_given};
 ghost use Rattle.nest_tree.specs.Intervals.{head_interval};
-ghost use Rattle.nest_tree.specs.Limits.{IsWithinLimits, no_ends, wide_forms, wide_in, wide_of};
+ghost use Rattle.nest_tree.specs.Limits.{no_ends, wide_forms, wide_in, wide_of};
 ghost use Rattle.nest_tree.specs.View.{head_of, loop_of, statement_of, statements_from, tree_of};
-ghost use Rattle.nest_tree.specs.WellFormed.{IsWellFormed, loops_of};
+ghost use Rattle.nest_tree.specs.WellFormed.{loops_of};
 ghost use Rattle.nest_model.specs.Visits.{stops_in, stops_of};
 ghost use Rattle.nest_walk.specs.Walks.{enters_but};
 ghost use Rattle.owner_partition.specs.Owners.{reaches};
@@ -40,8 +40,6 @@ pub fn check_placement(
     anchors: &[(u32, Anchor)],
     workers: u32,
 ) -> Result<(), Placement>
-    requires formed { IsWellFormed (tree_of program.now) }
-    requires limits { IsWithinLimits (tree_of program.now) }
     requires given { IsTrue (list_all (is_anchor_given (tree_of program.now)) anchors.now) }
     ensures { result_err result ≡ unplaced (tree_of program.now) cut.now.marks workers anchors.now }
 {
@@ -60,8 +58,6 @@ pub fn check_anchor(
     anchor: &Anchor,
     workers: u32,
 ) -> Result<(), Placement>
-    requires formed { IsWellFormed (tree_of program.now) }
-    requires limits { IsWithinLimits (tree_of program.now) }
     requires given { IsTrue (is_given anchor.now.form (loops_of (tree_of program.now).items)
         (length (tree_of program.now).params)) }
     ensures { result_err result
@@ -80,8 +76,6 @@ fn check_from(
     anchor: &Anchor,
     workers: u32,
 ) -> Result<(), Placement>
-    requires formed { IsWellFormed (tree_of program.now) }
-    requires limits { IsWithinLimits (tree_of program.now) }
     requires given { IsTrue (is_given anchor.now.form (loops_of (tree_of program.now).items)
         (length (tree_of program.now).params)) }
     requires ends { ends.old ≡ no_ends }

@@ -2,7 +2,7 @@
 
 ghost use Rattle.std.specs.Prelude.{◌≡◌, ◌+◌, ◌-◌, ◌<◌, ◌^◌, [], ℕ, IsTrue, MatchOption, Some, None, pos, slice_index_or};
 ghost use Rattle.nest_tree.specs.View.{statement_of, statements_from, tree_of};
-ghost use Rattle.nest_tree.specs.WellFormed.{IsWellFormed, Scope, are_good_statements, is_good_statement};
+ghost use Rattle.nest_tree.specs.WellFormed.{Scope, are_good_statements, is_good_statement};
 ghost use Rattle.nest_model.specs.Instances.{works_in, works_of};
 ghost use Rattle.nest_model.specs.Visits.{stops_in, stops_of};
 ghost use Rattle.nest_walk.specs.Places.{numbers_of};
@@ -31,7 +31,6 @@ pub(crate) fn site_of<'a>(
     number: u32,
     path: &mut Path,
 ) -> Option<Site<'a>>
-    requires formed { IsWellFormed (tree_of program.now) }
     requires bare { rounds_of path.old ≡ [] }
     ensures { MatchOption result (site_among (enters_outer cut.now.marks) outer.now []
         (tree_of program.now).items (number - 1) 1 ≡ None)

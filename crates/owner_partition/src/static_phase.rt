@@ -3,7 +3,7 @@
 ghost use Rattle.std.specs.Prelude.{◌≡◌, ◌==◌, ◌-◌, ◌<◌, ◌^◌, ℕ, IsTrue, MatchOption, None, Some, length, slice_get};
 ghost use Rattle.std.specs.List.{list_any};
 ghost use Rattle.nest_tree.specs.View.{statement_of, statements_from, tree_of};
-ghost use Rattle.nest_tree.specs.WellFormed.{IsWellFormed, Scope, are_good_statements, is_good_statement};
+ghost use Rattle.nest_tree.specs.WellFormed.{Scope, are_good_statements, is_good_statement};
 ghost use Rattle.nest_model.specs.Visits.{stops_in, stops_of};
 ghost use Rattle.nest_walk.specs.Texts.{placed, placed_in, placed_of};
 ghost use Rattle.nest_walk.specs.Walks.{enters_but};
@@ -28,7 +28,6 @@ impl<'a> StaticPhase<'a> {
     /// The one with this number, from 1 in text order; none where there is no such phase. It takes
     /// no memory, and goes down the text once.
     pub fn at(program: &'a Program, cut: &Cut, number: u32) -> Option<Self>
-        requires { IsWellFormed (tree_of program.now) }
         ensures { MatchOption result
             (slice_get (placed (tree_of program.now) (enters_outer cut.now.marks)) (number - 1)
             ≡ None) (λ s. slice_get (placed (tree_of program.now) (enters_outer cut.now.marks))
@@ -41,7 +40,6 @@ impl<'a> StaticPhase<'a> {
 
     /// How many there are.
     pub fn count(program: &Program, cut: &Cut) -> u32
-        requires { IsWellFormed (tree_of program.now) }
         ensures { result ≡ length (placed (tree_of program.now) (enters_outer cut.now.marks)) }
     {
         phase_count(cut.closed(), &program.items)

@@ -24,7 +24,7 @@ use Rattle.comm_system.specs.contracts.slot.Slot as Slot
 use Rattle.comm_system.specs.contracts.subject.Subject as Subject
 use Rattle.comm_system.specs.contracts.group.Group as Group
 use Rattle.comm_system.proofs.waits.Waits.TheSendSync as waits
-use Rattle.nest_tree.specs.contracts.tree.Program as Program
+use Rattle.nest_tree.specs.contracts.program.Program as Program
 use Rattle.nest_tree.proofs.tree.Parameter.TheSendSync as parameter
 use Rattle.nest_tree.proofs.tree.Variable.TheSendSync as variable
 

@@ -1,9 +1,7 @@
 // Whether a plan is accepted.
 
 ghost use Rattle.std.specs.Prelude.{◌≡◌, ◌≢◌, IfErr, IfOk, None, OnOk, Some};
-ghost use Rattle.nest_tree.specs.Limits.{IsWithinLimits};
 ghost use Rattle.nest_tree.specs.View.{tree_of};
-ghost use Rattle.nest_tree.specs.WellFormed.{IsWellFormed};
 ghost use Rattle.sync_plan.specs.Shape.{wrong_field};
 ghost use Rattle.plan_checker.specs.Accepted.{IsAccepted};
 ghost use Rattle.plan_checker.specs.Failures.{failure_with, first_failure};
@@ -29,8 +27,6 @@ pub fn check<R: Threads + Sync>(
     program: &Program,
     plan: &Plan,
 ) -> Result<(), PlanRefusal>
-    requires formed { IsWellFormed (tree_of program.now) }
-    requires limits { IsWithinLimits (tree_of program.now) }
     ensures accepted { OnOk result (IsAccepted (tree_of program.now) plan.now) }
     ensures refused { IfErr result (λ refusal. refusal ≢ NoMemory
         → first_failure (tree_of program.now) plan.now ≡ Some refusal) }
@@ -54,8 +50,6 @@ pub(crate) fn failure<R: Threads + Sync>(
     plan: &Plan,
     misfit: Option<PlanRefusal>,
 ) -> Result<Option<PlanRefusal>, AllocError>
-    requires formed { IsWellFormed (tree_of program.now) }
-    requires limits { IsWithinLimits (tree_of program.now) }
     requires shape { wrong_field (tree_of program.now) plan.now ≡ None }
     ensures { IfOk result (λ found. found ≡ failure_with misfit (tree_of program.now) plan.now) }
 {

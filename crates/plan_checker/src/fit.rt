@@ -2,9 +2,7 @@
 
 ghost use Rattle.std.specs.Prelude.{◌≡◌, ◌<◌, ◌^◌, None, length};
 ghost use Rattle.std.specs.Result.{result_err};
-ghost use Rattle.nest_tree.specs.Limits.{IsWithinLimits};
 ghost use Rattle.nest_tree.specs.View.{tree_of};
-ghost use Rattle.nest_tree.specs.WellFormed.{IsWellFormed};
 ghost use Rattle.sync_plan.specs.Shape.{wrong_field};
 ghost use Rattle.plan_checker.specs.Refusals.{first_refusal};
 
@@ -18,8 +16,6 @@ use sync_plan::Plan;
 /// Whether a plan fits a program; else the first reason why not: its shape, then the placement of
 /// its block anchors, then its phases with a PRINT, then its conditions. It takes no memory.
 pub fn check_fit(program: &Program, plan: &Plan) -> Result<(), PlanRefusal>
-    requires formed { IsWellFormed (tree_of program.now) }
-    requires limits { IsWithinLimits (tree_of program.now) }
     ensures { result_err result ≡ first_refusal (tree_of program.now) plan.now }
 {
     if let Some(field) = wrong_field(program, plan) {
@@ -30,8 +26,6 @@ pub fn check_fit(program: &Program, plan: &Plan) -> Result<(), PlanRefusal>
 
 /// The same of a plan whose shape is right.
 pub(crate) fn check_shaped(program: &Program, plan: &Plan) -> Result<(), PlanRefusal>
-    requires formed { IsWellFormed (tree_of program.now) }
-    requires limits { IsWithinLimits (tree_of program.now) }
     requires shape { wrong_field (tree_of program.now) plan.now ≡ None }
     requires anchors { length plan.now.anchors < 2 ^ 32 }
     requires kinds { length plan.now.kinds < 2 ^ 32 }

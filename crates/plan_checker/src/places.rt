@@ -3,9 +3,8 @@
 ghost use Rattle.std.specs.Prelude.{◌≡◌, ◌<◌, ◌^◌, ◌&&◌, ◌||◌, not, suc, ◌∷◌, IsTrue, List, None, length};
 ghost use Rattle.std.specs.Option.{option_or};
 ghost use Rattle.std.specs.Result.{result_err};
-ghost use Rattle.nest_tree.specs.Limits.{IsWithinLimits};
 ghost use Rattle.nest_tree.specs.View.{statement_of, tree_of};
-ghost use Rattle.nest_tree.specs.WellFormed.{IsWellFormed, loops_of};
+ghost use Rattle.nest_tree.specs.WellFormed.{loops_of};
 ghost use Rattle.owner_partition.specs.Placement.{unplaced};
 ghost use Rattle.sync_plan.specs.Fit.{has_print, is_dealt, is_zero_form, kind_anchors, misplaced_print, numbered_anchors, placed_anchors};
 ghost use Rattle.sync_plan.specs.Shape.{static_phases, wrong_field};
@@ -19,8 +18,6 @@ use sync_plan::{Kind, Plan};
 /// Whether each block anchor of a plan of a fitting shape keeps within its blocks, the phases'
 /// first and then the kinds'; else the first that doesn't.
 pub(crate) fn check_places(program: &Program, plan: &Plan) -> Result<(), Placement>
-    requires formed { IsWellFormed (tree_of program.now) }
-    requires limits { IsWithinLimits (tree_of program.now) }
     requires shape { wrong_field (tree_of program.now) plan.now ≡ None }
     requires anchors { length plan.now.anchors < 2 ^ 32 }
     requires kinds { length plan.now.kinds < 2 ^ 32 }
@@ -37,8 +34,6 @@ fn check_phases(
     anchors: &[Anchor],
     workers: u32,
 ) -> Result<(), Placement>
-    requires formed { IsWellFormed (tree_of program.now) }
-    requires limits { IsWithinLimits (tree_of program.now) }
     requires few { length anchors.now < 2 ^ 32 }
     requires given { IsTrue (are_given_anchors (loops_of (tree_of program.now).items)
         (length (tree_of program.now).params) anchors.now) }
@@ -52,8 +47,6 @@ fn check_phases(
 }
 
 fn check_kinds(program: &Program, cut: &Cut, kinds: &[Kind], workers: u32) -> Result<(), Placement>
-    requires formed { IsWellFormed (tree_of program.now) }
-    requires limits { IsWithinLimits (tree_of program.now) }
     requires few { length kinds.now < 2 ^ 32 }
     requires given { IsTrue (are_given_kinds (loops_of (tree_of program.now).items)
         (length (tree_of program.now).params) kinds.now) }
@@ -74,8 +67,6 @@ fn check_kind(
     kind: &Kind,
     workers: u32,
 ) -> Result<(), Placement>
-    requires formed { IsWellFormed (tree_of program.now) }
-    requires limits { IsWithinLimits (tree_of program.now) }
     requires given { IsTrue (is_given_kind (loops_of (tree_of program.now).items)
         (length (tree_of program.now).params) kind.now) }
     ensures { (rest : List Kind)
@@ -92,7 +83,6 @@ fn check_kind(
 /// The first static phase, from 1, with a PRINT that is a Doall loop or has another form than the
 /// constant 0.
 pub(crate) fn misplaced_print(program: &Program, cut: &Cut, anchors: &[Anchor]) -> Option<u32>
-    requires formed { IsWellFormed (tree_of program.now) }
     requires few { length anchors.now < 2 ^ 32 }
     ensures { result
         ≡ misplaced_print 1 cut.now.marks

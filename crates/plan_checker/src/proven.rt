@@ -2,9 +2,7 @@
 
 ghost use Rattle.std.specs.Prelude.{◌≡◌, ◌≢◌, IfErr, IfOk, OnOk, Some, length, map};
 ghost use Rattle.std.specs.Option.{IsNone};
-ghost use Rattle.nest_tree.specs.Limits.{IsWithinLimits};
 ghost use Rattle.nest_tree.specs.View.{tree_of};
-ghost use Rattle.nest_tree.specs.WellFormed.{IsWellFormed};
 ghost use Rattle.nest_tree.specs.declared.tree.Parameter.{Parameter as Named};
 ghost use Rattle.sync_plan.specs.Fit.{unmet_among};
 ghost use Rattle.plan_checker.specs.Proved.{IsProved, first_other, first_unproved, value_rows};
@@ -38,8 +36,6 @@ pub fn prove<'p, R: Threads + Sync>(
     program: &'p Program,
     plan: &'p Plan,
 ) -> Result<Proven<'p>, PlanRefusal>
-    requires formed { IsWellFormed (tree_of program.now) }
-    requires limits { IsWithinLimits (tree_of program.now) }
     ensures proved { OnOk result (IsProved (tree_of program.entry.now) plan.entry.now) }
     ensures program { IfOk result (λ p. p.program.now ≡ program.entry.now) }
     ensures plan { IfOk result (λ p. p.plan.now ≡ plan.entry.now) }
@@ -64,8 +60,6 @@ impl Proven<'_> {
     /// why not: the programs don't agree, then as [`check_fit`], where the values of the first
     /// program's named constants count as conditions if the plan has none. It takes no memory.
     pub fn fits(&self, program: &Program) -> Result<(), PlanRefusal>
-        requires formed { IsWellFormed (tree_of program.now) }
-        requires limits { IsWithinLimits (tree_of program.now) }
         ensures refused { result_err result
             ≡ first_unfit (tree_of self.now.program.now) self.now.plan.now (tree_of program.now) }
         ensures accepted { OnOk result (IsAccepted (tree_of program.now) self.now.plan.now) }

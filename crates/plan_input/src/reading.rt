@@ -7,9 +7,7 @@ ghost use Rattle.f77_scene.specs.Reading.{Reads};
 ghost use Rattle.f77_source.specs.Answers as answers;
 ghost use Rattle.f77_source.specs.Sources.{setting_of};
 ghost use Rattle.nest_model.specs.Ranges.{IsInRange};
-ghost use Rattle.nest_tree.specs.Limits.{IsWithinLimits};
 ghost use Rattle.nest_tree.specs.View.{tree_of};
-ghost use Rattle.nest_tree.specs.WellFormed.{IsWellFormed};
 ghost use Rattle.sync_plan.specs.Fit.{IsFit};
 ghost use Rattle.sync_plan.specs.Shape.{wrong_field};
 ghost use Rattle.plan_input.specs.Sources.{HasProgramWith};
@@ -18,7 +16,7 @@ ghost use Rattle.plan_input.specs.Stops.{IsClear, IsFirst, IsPlanStop, IsSourceS
 use crate::stop::Stop;
 use f77_lines::{Line, LineRefusal, MOST_BYTES, first_behind, statements};
 use f77_source::{Setting, read_program};
-use nest_tree::{Program, program_limits};
+use nest_tree::Program;
 use plan_checker::check_fit;
 use plan_text::read_plan;
 use range_check::check_ranges;
@@ -32,8 +30,6 @@ pub fn read_source(alloc: Global, bytes: &[u8]) -> Result<(Program, usize), Stop
     ensures program { IfOk result (λ read. Reads bytes.now [] (tree_of read.0)) }
     ensures rest { IfOk result (λ read. read.1 ≡ size_to_end (columns.lines_of bytes.now)) }
     ensures within { IfOk result (λ read. read.1 ≤ length bytes.now) }
-    ensures formed { IfOk result (λ read. IsWellFormed (tree_of read.0)) }
-    ensures limits { IfOk result (λ read. IsWithinLimits (tree_of read.0)) }
     ensures refused { IfErr result (IsSourceStop bytes.now) }
 {
     let (lines, rest) = lines_of(alloc, bytes, false)?;
@@ -46,14 +42,12 @@ fn program_of(alloc: Global, lines: &[Line], settings: &[Setting]) -> Result<Pro
     requires { (bytes : List ℕ) × (rest : ℕ) × Lists bytes (map entry_of lines.now) rest }
     ensures program { IfOk result (λ p. answers.IsProgram (map entry_of lines.now)
         (map setting_of settings.now) (tree_of p)) }
-    ensures formed { IfOk result (λ p. IsWellFormed (tree_of p)) }
-    ensures limits { IfOk result (λ p. IsWithinLimits (tree_of p)) }
     ensures refused { IfErr result (IsFirst (stop_of_listed (map entry_of lines.now)
         (map setting_of settings.now))) }
 {
-    let program = read_program(alloc, lines, settings)?;
-    match program_limits(&program) {
-        Ok(()) => Ok(program),
+    let draft = read_program(alloc, lines, settings)?;
+    match draft.limited() {
+        Ok(program) => Ok(program),
         Err(limit) => Err(Stop::Limit(limit)),
     }
 }
@@ -75,7 +69,6 @@ pub fn read_inside(
     ensures none { OnOk result (first_stop alone bytes.now (map setting_of settings.now) ≡ None) }
     ensures rest { IfOk result (λ read. read.1 ≡ size_to_end (columns.lines_of bytes.now)) }
     ensures within { IfOk result (λ read. read.1 ≤ length bytes.now) }
-    ensures formed { IfOk result (λ read. IsWellFormed (tree_of read.0)) }
     ensures refused { IfErr result (IsStop alone bytes.now (map setting_of settings.now)) }
 {
     let (lines, rest) = lines_of(alloc, bytes, alone)?;
@@ -121,8 +114,6 @@ fn first_stray(bytes: &[u8], rest: usize, alone: bool) -> Option<u32>
 /// there is none, or that memory ran out.
 pub fn read_fitting(alloc: Global, program: &Program, bytes: &[u8]) -> Result<Plan, Stop>
     requires short { length bytes.now ≤ MOST_BYTES }
-    requires formed { IsWellFormed (tree_of program.now) }
-    requires limits { IsWithinLimits (tree_of program.now) }
     ensures plan { IfOk result (λ plan. IsTextOf plan bytes.now) }
     ensures fits { IfOk result (IsFit (tree_of program.now)) }
     ensures shape { IfOk result (λ plan. wrong_field (tree_of program.now) plan ≡ None) }

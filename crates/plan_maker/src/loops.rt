@@ -2,10 +2,9 @@
 
 ghost use Rattle.std.specs.Prelude.{◌≡◌, ◌≤◌, ◌<◌, ◌++◌, ◌∷◌, [], ℕ, IfOk, None, OnOk, Some, false, length, map, slice_get, true};
 ghost use Rattle.std.specs.List.{AllZip};
-ghost use Rattle.nest_tree.specs.Limits.{IsWithinLimits};
 ghost use Rattle.nest_tree.specs.Tree.{Tree};
 ghost use Rattle.nest_tree.specs.View.{tree_of};
-ghost use Rattle.nest_tree.specs.WellFormed.{IsWellFormed, loops_of};
+ghost use Rattle.nest_tree.specs.WellFormed.{loops_of};
 ghost use Rattle.sync_plan.specs.declared.plan.Conditions.TheVariants.{Values};
 ghost use Rattle.sync_plan.specs.Fit.{IsFit};
 ghost use Rattle.plan_maker.specs.Bars.{AreSure, HasLoopReasons, IsLoopReason, all_attempts, is_open, loop_prints, open_loop, open_loops};
@@ -63,8 +62,6 @@ pub(crate) fn judge_loops(
     program: &Program,
     findings: &mut Findings,
 ) -> Result<Vec<LoopVerdict>, AllocError>
-    requires formed { IsWellFormed (tree_of program.now) }
-    requires limits { IsWithinLimits (tree_of program.now) }
     ensures long { IfOk result (λ verdicts. length verdicts.items
         ≡ loops_of (tree_of program.now).items) }
     ensures verdicts { IfOk result
@@ -84,8 +81,6 @@ fn judge_loop(
     number: u32,
     findings: &mut Findings,
 ) -> Result<LoopVerdict, AllocError>
-    requires formed { IsWellFormed (tree_of program.now) }
-    requires limits { IsWithinLimits (tree_of program.now) }
     requires some { 1 ≤ number }
     requires there { number ≤ loops_of (tree_of program.now).items }
     ensures { IfOk result (IsLoopVerdict (tree_of program.now) number) }
@@ -111,8 +106,6 @@ fn judge_tries(
     nest: &Nest,
     findings: &mut Findings,
 ) -> Result<LoopVerdict, AllocError>
-    requires formed { IsWellFormed (tree_of program.now) }
-    requires limits { IsWithinLimits (tree_of program.now) }
     requires body { body_among nest.now.number (tree_of program.now).items
         ≡ Some (nest_body nest.now) }
     requires silent { loop_prints (tree_of program.now) nest.now.number ≡ false }
@@ -147,8 +140,6 @@ fn judge_sure(
     tried: Tried,
     findings: &mut Findings,
 ) -> Result<Option<Dealt>, AllocError>
-    requires formed { IsWellFormed (tree_of program.now) }
-    requires limits { IsWithinLimits (tree_of program.now) }
     requires body { body_among nest.now.number (tree_of program.now).items
         ≡ Some (nest_body nest.now) }
     requires made { IsMadeOf tried (tried_privates tried (nest_body nest.now))
@@ -178,8 +169,6 @@ fn sure_scalars(
     nest: &Nest,
     findings: &mut Findings,
 ) -> Result<Vec<u32>, AllocError>
-    requires formed { IsWellFormed (tree_of program.now) }
-    requires limits { IsWithinLimits (tree_of program.now) }
     requires body { body_among nest.now.number (tree_of program.now).items
         ≡ Some (nest_body nest.now) }
     requires silent { loop_prints (tree_of program.now) nest.now.number ≡ false }
@@ -207,8 +196,6 @@ fn is_sure(
     scalar: u32,
     findings: &mut Findings,
 ) -> Result<bool, AllocError>
-    requires formed { IsWellFormed (tree_of program.now) }
-    requires limits { IsWithinLimits (tree_of program.now) }
     requires some { 1 ≤ number }
     requires made { IsMadeOf Private (scalar ∷ []) (body_of (tree_of program.now) number) }
     ensures { IfOk result (IsSettled (path_asked (tree_of program.now) number scalar)) }
@@ -237,8 +224,6 @@ fn judge_try(
     privates: Privates,
     findings: &mut Findings,
 ) -> Result<Verdict<Dealt, Cause>, AllocError>
-    requires formed { IsWellFormed (tree_of program.now) }
-    requires limits { IsWithinLimits (tree_of program.now) }
     requires some { 1 ≤ number }
     requires made { IsMadeOf tried privates (body_of (tree_of program.now) number) }
     ensures { IfOk result (IsDealtVerdict (tree_of program.now) number tried privates) }
@@ -273,7 +258,6 @@ fn copied(alloc: Global, privates: &Privates) -> Result<Privates, AllocError>
 
 // A plan with this cut in which processor 0 does all.
 fn serial(alloc: Global, program: &Program, cut: Cut) -> Result<Plan, AllocError>
-    requires formed { IsWellFormed (tree_of program.now) }
     requires tried { IsTriedCut (tree_of program.now) cut }
     ensures cut { IfOk result (λ plan. plan.cut ≡ cut) }
     ensures conditions { IfOk result (λ plan. plan.conditions ≡ Values) }

@@ -2,9 +2,7 @@
 
 ghost use Rattle.std.specs.Prelude.{◌≡◌, ◌≤◌, IfOk, []};
 ghost use Rattle.std.specs.List.{AllZip};
-ghost use Rattle.nest_tree.specs.Limits.{IsWithinLimits};
 ghost use Rattle.nest_tree.specs.View.{tree_of};
-ghost use Rattle.nest_tree.specs.WellFormed.{IsWellFormed};
 ghost use Rattle.sync_plan.specs.Barriers.{barrier_plan};
 ghost use Rattle.sync_plan.specs.Fit.{IsFit};
 ghost use Rattle.maker_anchors.specs.Anchors.{maker_anchors};
@@ -41,8 +39,6 @@ struct Weakest {
 
 /// The plan of a program for 1 to 64 workers, with its reasons. The error is that memory ran out.
 pub fn make(alloc: Global, program: &Program, workers: u32) -> Result<(Plan, Reasons), AllocError>
-    requires formed { IsWellFormed (tree_of program.now) }
-    requires limits { IsWithinLimits (tree_of program.now) }
     requires some { 1 ≤ workers }
     requires few { workers ≤ 64 }
     ensures { IfOk result (λ made. IsMade (tree_of program.now) workers made.0 made.1) }
@@ -71,8 +67,6 @@ pub fn make(alloc: Global, program: &Program, workers: u32) -> Result<(Plan, Rea
 /// The plan of a program for 1 to 64 workers with the cut and the anchors of [`make`] and a barrier
 /// in front of each phase. The error is that memory ran out.
 pub fn make_barrier(alloc: Global, program: &Program, workers: u32) -> Result<Plan, AllocError>
-    requires formed { IsWellFormed (tree_of program.now) }
-    requires limits { IsWithinLimits (tree_of program.now) }
     requires some { 1 ≤ workers }
     requires few { workers ≤ 64 }
     ensures { IfOk result (IsBarrierPlan (tree_of program.now) workers) }
@@ -90,8 +84,6 @@ pub fn make_barrier(alloc: Global, program: &Program, workers: u32) -> Result<Pl
 // The plan of this cut and the maker's anchors under it, with a barrier in front of each phase and
 // without a certificate.
 fn base_plan(alloc: Global, program: &Program, cut: Cut, workers: u32) -> Result<Plan, AllocError>
-    requires formed { IsWellFormed (tree_of program.now) }
-    requires limits { IsWithinLimits (tree_of program.now) }
     requires some { 1 ≤ workers }
     requires few { workers ≤ 64 }
     requires reasoned { IsReasonedCut (tree_of program.now) cut }
@@ -110,8 +102,6 @@ fn make_cut(
     program: &Program,
     findings: &mut Findings,
 ) -> Result<(Cut, Vec<LoopReason>, LoopCertificates), AllocError>
-    requires formed { IsWellFormed (tree_of program.now) }
-    requires limits { IsWithinLimits (tree_of program.now) }
     ensures reasoned { IfOk result (λ made. IsReasonedCut (tree_of program.now) made.0) }
     ensures loops { IfOk result (λ made. AllZip (IsLoopReason (tree_of program.now))
         (all_attempts (tree_of program.now) (open_loops 1 made.0.marks)) made.1.items) }
@@ -156,8 +146,6 @@ fn find_weakest(
     loops: LoopCertificates,
     findings: Findings,
 ) -> Result<Weakest, AllocError>
-    requires formed { IsWellFormed (tree_of problem.program.now) }
-    requires limits { IsWithinLimits (tree_of problem.program.now) }
     requires fits { IsFit (tree_of problem.program.now) problem.plan.now }
     requires trips { AreRefuted
         (all_trips_asked (tree_of problem.program.now) problem.plan.now) loops.trips.items }

@@ -2,9 +2,7 @@
 
 ghost use Rattle.std.specs.Prelude.{◌≡◌, ◌+◌, ◌≤◌, ◌<◌, ◌^◌, IfOk, IfSome, IsTrue, None, OnOk, false, length, map, slice_index_or, true};
 ghost use Rattle.std.specs.List.{AllZip, filter, list_all, sum};
-ghost use Rattle.nest_tree.specs.Limits.{IsWithinLimits};
 ghost use Rattle.nest_tree.specs.View.{tree_of};
-ghost use Rattle.nest_tree.specs.WellFormed.{IsWellFormed};
 ghost use Rattle.comm_system.specs.Obligations.{slots_of};
 ghost use Rattle.comm_system.specs.PhaseViews.{phase_seen};
 ghost use Rattle.comm_system.specs.References.{phases_of};
@@ -84,8 +82,6 @@ impl<'b, 'a> Search<'b, 'a> {
         phases: &'b [Phase<'a>],
         findings: Findings,
     ) -> Result<Self, AllocError>
-        requires formed { IsWellFormed (tree_of problem.program.now) }
-        requires limits { IsWithinLimits (tree_of problem.program.now) }
         requires some { 1 ≤ problem.plan.now.workers }
         requires phases { map phase_seen phases.now
             ≡ phases_of (tree_of problem.program.now) problem.plan.now.cut.marks }

@@ -3,7 +3,7 @@
 ghost use Rattle.std.specs.Prelude.{◌≡◌, ◌==◌, ◌<◌, ◌^◌, List, ℕ, length};
 ghost use Rattle.std.specs.List.{list_all, list_any};
 ghost use Rattle.nest_tree.specs.View.{statement_of, tree_of};
-ghost use Rattle.nest_tree.specs.WellFormed.{IsWellFormed, is_number_of, names_only};
+ghost use Rattle.nest_tree.specs.WellFormed.{is_number_of, names_only};
 ghost use Rattle.owner_partition.specs.StaticPhases.{loops_round};
 ghost use Rattle.sync_plan.specs.Shape.{are_good_anchors, are_good_kinds, is_good_anchor, is_good_kind, own_loops, static_phases};
 ghost use Rattle.plan_shape.specs.Named.{with_own};
@@ -14,7 +14,6 @@ use sync_plan::Kind;
 
 /// Whether the anchors of the static phases name only what they may, and have blocks of a length.
 pub(crate) fn are_good_anchors(program: &Program, cut: &Cut, anchors: &[Anchor]) -> bool
-    requires formed { IsWellFormed (tree_of program.now) }
     requires few { length anchors.now < 2 ^ 32 }
     ensures { result ≡ are_good_anchors (length (tree_of program.now).params) cut.now.marks
         (static_phases (tree_of program.now) cut.now.marks) anchors.now }
@@ -34,7 +33,6 @@ pub(crate) fn are_good_anchors(program: &Program, cut: &Cut, anchors: &[Anchor])
 
 /// The same of the kinds in front of the static phases.
 pub(crate) fn are_good_kinds(program: &Program, cut: &Cut, kinds: &[Kind]) -> bool
-    requires formed { IsWellFormed (tree_of program.now) }
     requires few { length kinds.now < 2 ^ 32 }
     ensures { result ≡ are_good_kinds (length (tree_of program.now).params)
         (static_phases (tree_of program.now) cut.now.marks) kinds.now }

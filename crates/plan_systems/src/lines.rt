@@ -5,7 +5,6 @@ ghost use Rattle.std.specs.Fmt.{decimal, signed_decimal};
 ghost use Rattle.std.specs.List.{flat_map};
 ghost use Rattle.comm_system.specs.Obligations.{obligations_of};
 ghost use Rattle.nest_tree.specs.View.{tree_of};
-ghost use Rattle.nest_tree.specs.WellFormed.{IsWellFormed};
 ghost use Rattle.sync_plan.specs.Fit.{IsFit};
 ghost use Rattle.plan_systems.specs.SystemsText.{coefs_text, counts_text, head_text, name_text, range_text, row_text, sizes_text, system_text, systems_text};
 
@@ -20,7 +19,6 @@ use sync_plan::Plan;
 /// The text of the obligations of a plan that fits the program, in order. The error is that memory
 /// ran out.
 pub fn write_systems(alloc: Global, program: &Program, plan: &Plan) -> Result<Vec<u8>, AllocError>
-    requires formed { IsWellFormed (tree_of program.now) }
     requires fits { IsFit (tree_of program.now) plan.now }
     ensures { IfOk result (λ text. text.items
         ≡ systems_text (obligations_of (tree_of program.now) plan.now)) }

@@ -4,7 +4,6 @@ ghost use Rattle.std.specs.Prelude.{◌≡◌, ◌≤◌, IfErr, IfOk, length, m
 ghost use Rattle.command_words.specs.declared.request.PlanChoice.TheVariants.{Made};
 ghost use Rattle.f77_source.specs.Sources.{setting_of};
 ghost use Rattle.nest_tree.specs.View.{tree_of};
-ghost use Rattle.nest_tree.specs.WellFormed.{IsWellFormed};
 ghost use Rattle.plan_words.specs.Wanted.{IsCountedFor};
 ghost use Rattle.plan_words.specs.declared.request.Subject.TheVariants.{Behind, For};
 ghost use Rattle.plan_tool.specs.Subjects.{IsAccount, IsUntold};
@@ -58,7 +57,6 @@ fn account_in<R: Threads + Sync>(
     requires counted { IsCountedFor subject }
     ensures account { IfOk result (λ a. IsAccount subject bytes.now (map setting_of settings.now)
         (tree_of a.program) a.account) }
-    ensures formed { IfOk result (λ a. IsWellFormed (tree_of a.program)) }
     ensures refused { IfErr result (IsUntold subject bytes.now (map setting_of settings.now)) }
 {
     match subject {
@@ -84,7 +82,6 @@ fn account_behind<R: Threads + Sync>(
     requires { length bytes.now ≤ MOST_BYTES }
     ensures account { IfOk result (λ a. IsAccount Behind bytes.now (map setting_of settings.now)
         (tree_of a.program) a.account) }
-    ensures formed { IfOk result (λ a. IsWellFormed (tree_of a.program)) }
     ensures refused { IfErr result (IsUntold Behind bytes.now (map setting_of settings.now)) }
 {
     let Planned { program, plan } = plan_behind(alloc, settings, bytes)?;
@@ -104,7 +101,6 @@ fn account_for<R: Threads + Sync>(
     requires few { asked.now.workers ≤ 64 }
     ensures account { IfOk result (λ a. IsAccount (For asked.now.workers asked.now.choice) bytes.now
         (map setting_of asked.now.settings.now) (tree_of a.program) a.account) }
-    ensures formed { IfOk result (λ a. IsWellFormed (tree_of a.program)) }
     ensures refused { IfErr result (IsUntold (For asked.now.workers asked.now.choice) bytes.now
         (map setting_of asked.now.settings.now)) }
 {
@@ -125,7 +121,6 @@ fn account_of_made(alloc: Global, asked: &Asked, bytes: &[u8]) -> Result<Account
     requires few { asked.now.workers ≤ 64 }
     ensures account { IfOk result (λ a. IsAccount (For asked.now.workers Made) bytes.now
         (map setting_of asked.now.settings.now) (tree_of a.program) a.account) }
-    ensures formed { IfOk result (λ a. IsWellFormed (tree_of a.program)) }
     ensures refused { IfErr result (IsUntold (For asked.now.workers Made) bytes.now
         (map setting_of asked.now.settings.now)) }
 {

@@ -3,7 +3,6 @@
 ghost use Rattle.std.specs.Prelude.{◌≤◌, IfErr, IfOk, length, map};
 ghost use Rattle.f77_source.specs.Sources.{setting_of};
 ghost use Rattle.nest_tree.specs.View.{tree_of};
-ghost use Rattle.nest_tree.specs.WellFormed.{IsWellFormed};
 ghost use Rattle.plan_words.specs.Wanted.{IsCountedFor};
 ghost use Rattle.sync_plan.specs.Fit.{IsFit};
 ghost use Rattle.plan_tool.specs.Subjects.{AreSystems, IsPlanOf, IsStopFor};
@@ -51,7 +50,6 @@ fn planned<R: Threads + Sync>(
     requires counted { IsCountedFor subject }
     ensures plan { IfOk result (λ p. IsPlanOf subject bytes.now (map setting_of settings.now)
         (tree_of p.program) p.plan) }
-    ensures formed { IfOk result (λ p. IsWellFormed (tree_of p.program)) }
     ensures fits { IfOk result (λ p. IsFit (tree_of p.program) p.plan) }
     ensures refused { IfErr result (IsStopFor subject bytes.now (map setting_of settings.now)) }
 {

@@ -13,7 +13,7 @@ use Rattle.nest_tree.specs.View.{tree_of}
 use Rattle.nest_tree.specs.WellFormed.{IsWellFormed, is_good_access, is_number_of, loops_of, scope_of}
 use Rattle.nest_tree.specs.declared.tree.Access.{Access}
 use Rattle.nest_tree.specs.declared.tree.Parameter.{Parameter}
-use Rattle.nest_tree.specs.declared.tree.Program.{Program}
+use Rattle.nest_tree.specs.declared.program.Program.{Program}
 use Rattle.nest_tree.specs.declared.tree.Variable.{Variable}
 use Rattle.nest_tree.proofs.Cells.{declared-numbered}
 use Rattle.nest_tree.specs.View.{declaration_of}

@@ -5,7 +5,7 @@ ghost use Rattle.std.specs.List.{AllZip, list_all};
 ghost use Rattle.nest_tree.specs.Form.{is_small};
 ghost use Rattle.nest_tree.specs.Tree.{Head};
 ghost use Rattle.nest_tree.specs.View.{tree_of};
-ghost use Rattle.nest_tree.specs.WellFormed.{IsWellFormed, scope_of};
+ghost use Rattle.nest_tree.specs.WellFormed.{scope_of};
 ghost use Rattle.nest_walk.specs.Places.{IsThere};
 ghost use Rattle.nest_rows.specs.Nested.{Nested as NestedWork, nested_works as works_of};
 ghost use Rattle.nest_rows.specs.Views.{IsView, heads_of};
@@ -29,7 +29,6 @@ fn is_access_certified(
     access: &Access,
     effort: &mut Effort,
 ) -> Result<bool, NoMemory>
-    requires formed { IsWellFormed (tree_of program.now) }
     requires seen { (n : NestedWork) × IsView n nested.now }
     requires steps { IsTrue (list_all (λ (h : Head). is_small h.step)
         (heads_of nested.now.around.items)) }
@@ -52,7 +51,6 @@ fn is_work_certified(
     nested: &Nested,
     effort: &mut Effort,
 ) -> Result<bool, NoMemory>
-    requires formed { IsWellFormed (tree_of program.now) }
     requires seen { (n : NestedWork) × IsView n nested.now
         × IsGoodNested (scope_of (tree_of program.now)) n }
     ensures { (n : NestedWork) → IsView n nested.now
@@ -69,7 +67,6 @@ fn is_work_certified(
 
 // Of each piece of work of the text, in order, whether all its accesses are certified.
 pub(crate) fn certified_works(alloc: Global, program: &Program) -> Result<Vec<bool>, NoMemory>
-    requires { IsWellFormed (tree_of program.now) }
     ensures { IfOk result (λ certified. AllZip (λ n b. IsTrue b
         → AreCertified (tree_of program.now) n) (works_of (tree_of program.now)) certified.items) }
 {

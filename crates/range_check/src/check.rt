@@ -3,11 +3,11 @@
 ghost use Rattle.std.specs.Prelude.{◌≡◌, ◌↔◌, ℕ, IsOk, IsTrue, Some, map, slice_get, true};
 ghost use Rattle.std.specs.List.{AllByRecursion, flat_map, list_all};
 ghost use Rattle.std.specs.Result.{result_err};
-ghost use Rattle.nest_tree.specs.Limits.{IsWithinLimits, line_of_work};
+ghost use Rattle.nest_tree.specs.Limits.{line_of_work};
 ghost use Rattle.nest_tree.specs.Loads.{loads_among, loads_in, loads_in_item};
 ghost use Rattle.nest_tree.specs.Tree.{Work, param_values, work};
 ghost use Rattle.nest_tree.specs.View.{expression_of, expressions_from, printed_of, statement_of, tree_of};
-ghost use Rattle.nest_tree.specs.WellFormed.{IsWellFormed, is_number_of, loops_of};
+ghost use Rattle.nest_tree.specs.WellFormed.{is_number_of, loops_of};
 ghost use Rattle.nest_model.specs.Ranges.{IsInRange, accesses_of};
 ghost use Rattle.nest_walk.specs.Cursors.{loops_in};
 ghost use Rattle.nest_walk.specs.InstancesLeft.{instances_left, instances_tree};
@@ -36,8 +36,6 @@ const MOST_STATEMENTS: usize = 400;
 /// whose subscripts are certified are not looked at, and a loop round nothing else isn't entered.
 /// Where memory runs out each instance is looked at.
 pub fn check_ranges(alloc: Global, program: &Program) -> Result<(), OutOfRange>
-    requires formed { IsWellFormed (tree_of program.now) }
-    requires limits { IsWithinLimits (tree_of program.now) }
     ensures first { result_err result ≡ outside_of (tree_of program.now) }
     ensures inside { IsOk result ↔ IsInRange (tree_of program.now) }
 {
@@ -52,8 +50,6 @@ pub fn check_ranges(alloc: Global, program: &Program) -> Result<(), OutOfRange>
 
 // The first subscript that is out of range, where these pieces of work are certified.
 fn check_others(program: &Program, certified: &[bool]) -> Result<(), OutOfRange>
-    requires formed { IsWellFormed (tree_of program.now) }
-    requires limits { IsWithinLimits (tree_of program.now) }
     requires certified { (k : ℕ) → (n : NestedWork) → slice_get certified.now k ≡ Some true
         → slice_get (nested_works (tree_of program.now)) k ≡ Some n
         → AreCertified (tree_of program.now) n }
@@ -80,7 +76,6 @@ fn check_instances(
     certified: &[bool],
     instances: Instances,
 ) -> Result<(), OutOfRange>
-    requires formed { IsWellFormed (tree_of program.now) }
     requires certified { (k : ℕ) → (n : NestedWork) → slice_get certified.now k ≡ Some true
         → slice_get (nested_works (tree_of program.now)) k ≡ Some n
         → AreCertified (tree_of program.now) n }
@@ -103,7 +98,6 @@ fn check_instances(
 
 // The first subscript of a piece of work that is out of range.
 fn check_work(program: &Program, item: &Item, path: &Path) -> Result<(), OutOfRange>
-    requires formed { IsWellFormed (tree_of program.now) }
     requires numbered { IsTrue
         (list_all (λ (r : Round). is_number_of (loops_of (tree_of program.now).items) r.number)
         (rounds_of path.now)) }
@@ -131,7 +125,6 @@ fn check_items(
     path: &Path,
     line: u32,
 ) -> Result<(), OutOfRange>
-    requires formed { IsWellFormed (tree_of program.now) }
     requires numbered { IsTrue
         (list_all (λ (r : Round). is_number_of (loops_of (tree_of program.now).items) r.number)
         (rounds_of path.now)) }
@@ -150,7 +143,6 @@ fn check_items(
 
 // Of what an item loads.
 fn check_item(program: &Program, item: &PrintItem, path: &Path, line: u32) -> Result<(), OutOfRange>
-    requires formed { IsWellFormed (tree_of program.now) }
     requires numbered { IsTrue
         (list_all (λ (r : Round). is_number_of (loops_of (tree_of program.now).items) r.number)
         (rounds_of path.now)) }
@@ -170,7 +162,6 @@ fn check_item(program: &Program, item: &PrintItem, path: &Path, line: u32) -> Re
 // Of what an expression loads.
 #[cycle(loads)]
 fn check_loads(program: &Program, e: &Expr, path: &Path, line: u32) -> Result<(), OutOfRange>
-    requires formed { IsWellFormed (tree_of program.now) }
     requires numbered { IsTrue
         (list_all (λ (r : Round). is_number_of (loops_of (tree_of program.now).items) r.number)
         (rounds_of path.now)) }
@@ -202,7 +193,6 @@ fn check_all_loads(
     path: &Path,
     line: u32,
 ) -> Result<(), OutOfRange>
-    requires formed { IsWellFormed (tree_of program.now) }
     requires numbered { IsTrue
         (list_all (λ (r : Round). is_number_of (loops_of (tree_of program.now).items) r.number)
         (rounds_of path.now)) }
@@ -226,7 +216,6 @@ fn check_access(
     path: &Path,
     line: u32,
 ) -> Result<(), OutOfRange>
-    requires formed { IsWellFormed (tree_of program.now) }
     requires numbered { IsTrue
         (list_all (λ (r : Round). is_number_of (loops_of (tree_of program.now).items) r.number)
         (rounds_of path.now)) }

@@ -3,8 +3,7 @@
 
 ghost use Rattle.std.specs.Prelude.{IsTrue, length};
 ghost use Rattle.nest_tree.specs.Given.{are_all_given, is_all_given};
-ghost use Rattle.nest_tree.specs.View.{loop_of, statement_of, statements_from, tree_of};
-ghost use Rattle.nest_tree.specs.WellFormed.{IsWellFormed};
+ghost use Rattle.nest_tree.specs.View.{loop_of, statement_of, statements_from};
 
 use crate::accesses::accesses_in;
 use nest_tree::{Item, Nest, Parameter, Program};
@@ -17,9 +16,7 @@ const MOST_LOOPS: usize = 400;
 const SHORT: u64 = 1_000_000;
 
 // Whether a walk through a program is short; also where memory runs out.
-pub(crate) fn is_short(alloc: Global, program: &Program) -> bool
-    requires { IsWellFormed (tree_of program.now) }
-{
+pub(crate) fn is_short(alloc: Global, program: &Program) -> bool {
     let mut ends = [(0, 0); MOST_LOOPS];
     match statements_cost(alloc, &program.items, &mut ends, &program.params, 1) {
         Ok(cost) => cost <= SHORT,

@@ -7,10 +7,9 @@ ghost use Rattle.farkas_cert.specs.Inequalities.{Inequalities};
 ghost use Rattle.presolve.specs.Presolution.{IsPresolved};
 ghost use Rattle.nest_tree.specs.Form.{is_small};
 ghost use Rattle.nest_tree.specs.Layout.{bounds_of};
-ghost use Rattle.nest_tree.specs.Limits.{IsWithinLimits};
 ghost use Rattle.nest_tree.specs.Tree.{Head};
 ghost use Rattle.nest_tree.specs.View.{tree_of};
-ghost use Rattle.nest_tree.specs.WellFormed.{IsWellFormed, is_good_dimension};
+ghost use Rattle.nest_tree.specs.WellFormed.{is_good_dimension};
 ghost use Rattle.nest_walk.specs.Places.{IsThere};
 ghost use Rattle.nest_rows.specs.Nested.{Nested as NestedWork};
 ghost use Rattle.nest_rows.specs.Views.{IsView, heads_of};
@@ -29,7 +28,6 @@ use std::alloc::Global;
 
 // The bounds of a dimension, by its place from 0.
 fn bounds_at(program: &Program, access: &Access, place: usize) -> (i64, i64)
-    requires formed { IsWellFormed (tree_of program.now) }
     requires there { IsThere (tree_of program.now) access.now }
     requires place { place < length (bounds_of (tree_of program.now) access.now.variable) }
     ensures bounds { result
@@ -104,7 +102,6 @@ pub(crate) fn dimension_proof(
     dimension: u32,
     effort: &mut Effort,
 ) -> Result<Option<(Certificate, Certificate)>, NoMemory>
-    requires formed { IsWellFormed (tree_of program.now) }
     requires seen { (n : NestedWork) × IsView n nested.now }
     requires steps { IsTrue (list_all (λ (h : Head). is_small h.step)
         (heads_of nested.now.around.items)) }
@@ -146,8 +143,6 @@ pub fn range_proof(
     access: u32,
     dimension: u32,
 ) -> Result<Option<(Certificate, Certificate)>, NoMemory>
-    requires formed { IsWellFormed (tree_of program.now) }
-    requires limits { IsWithinLimits (tree_of program.now) }
     requires number { 1 ≤ access }
     requires access { access ≤ length (sites (tree_of program.now)) }
     requires dimension { (s : Site) → IsSite (tree_of program.now) access s → (1 ≤ dimension)

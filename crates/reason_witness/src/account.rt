@@ -2,9 +2,7 @@
 
 ghost use Rattle.std.specs.Prelude.{◌≡◌, ◌≤◌, ◌++◌, ◌∷◌, [], IfOk, List, None, OnOk, map};
 ghost use Rattle.std.specs.List.{AllZip};
-ghost use Rattle.nest_tree.specs.Limits.{IsWithinLimits};
 ghost use Rattle.nest_tree.specs.View.{tree_of};
-ghost use Rattle.nest_tree.specs.WellFormed.{IsWellFormed};
 ghost use Rattle.sync_plan.specs.Fit.{IsFit};
 ghost use Rattle.sync_plan.specs.Shape.{wrong_field};
 ghost use Rattle.sync_plan.specs.declared.plan.Plan.{Plan as HeldPlan};
@@ -81,7 +79,6 @@ fn why_of(found: Option<Found>) -> Why
 
 // Whether a PRINT stands in the loop with this number, from 1.
 fn prints(program: &Program, number: u32) -> bool
-    requires { IsWellFormed (tree_of program.now) }
     ensures { result ≡ loop_prints (tree_of program.now) number }
 {
     if number == 0 || number > program.loop_count() {
@@ -97,8 +94,6 @@ fn plan_of_try(
     number: u32,
     tried: Tried,
 ) -> Result<Plan, AllocError>
-    requires formed { IsWellFormed (tree_of program.now) }
-    requires limits { IsWithinLimits (tree_of program.now) }
     ensures { IfOk result (λ plan. plan ≡ alone_plan (tree_of program.now) number tried) }
 {
     let cut = cut_of_try(alloc, program, number, tried)?;
@@ -113,8 +108,6 @@ fn why_silent(
     plan: &Plan,
     wanted: &Wanted,
 ) -> Result<Why, AllocError>
-    requires formed { IsWellFormed (tree_of program.now) }
-    requires limits { IsWithinLimits (tree_of program.now) }
     ensures { IfOk result (IsWhySilent (tree_of program.now) plan.now wanted.now) }
 {
     if let Err(refusal) = check_fit(program, plan) {
@@ -132,8 +125,6 @@ fn why_silent(
 
 // Why a loop isn't dealt out by a try.
 fn why_serial(alloc: Global, program: &Program, serial: Serial) -> Result<Why, AllocError>
-    requires formed { IsWellFormed (tree_of program.now) }
-    requires limits { IsWithinLimits (tree_of program.now) }
     ensures { IfOk result
         (IsWhySerial (tree_of program.now) serial.number serial.tried serial.wanted) }
 {
@@ -146,8 +137,6 @@ fn why_serial(alloc: Global, program: &Program, serial: Serial) -> Result<Why, A
 
 // The reason why a loop isn't dealt out by a try.
 fn loop_reason(alloc: Global, program: &Program, serial: Serial) -> Result<Reason, AllocError>
-    requires formed { IsWellFormed (tree_of program.now) }
-    requires limits { IsWithinLimits (tree_of program.now) }
     ensures { (plan : HeldPlan)
         → IfOk result (IsAnswer (tree_of program.now) plan (serial_question serial)) }
 {
@@ -276,8 +265,6 @@ fn reasons_of(
     plan: &Plan,
     asked: &Asked,
 ) -> Result<Vec<Reason>, AllocError>
-    requires formed { IsWellFormed (tree_of program.now) }
-    requires limits { IsWithinLimits (tree_of program.now) }
     requires accepted { IsAccepted (tree_of program.now) plan.now }
     ensures { IfOk result (λ reasons. AllZip (IsAnswer (tree_of program.now) plan.now)
         (questions_in asked.now) reasons.items) }
@@ -302,8 +289,6 @@ fn reasons_of(
 /// What is told of the plan that is made for 1 to 64 workers: one true reason for each of the maker's,
 /// in order. An error says that memory ran out.
 pub fn made_account(alloc: Global, program: &Program, workers: u32) -> Result<Account, AllocError>
-    requires formed { IsWellFormed (tree_of program.now) }
-    requires limits { IsWithinLimits (tree_of program.now) }
     requires some { 1 ≤ workers }
     requires few { workers ≤ 64 }
     ensures account { IfOk result (IsMadeAccount (tree_of program.now) workers) }
@@ -320,8 +305,6 @@ pub fn made_account(alloc: Global, program: &Program, workers: u32) -> Result<Ac
 /// is Outer or Single, and for each weaker candidate in front of each phase, in order. An error says
 /// that memory ran out.
 pub fn given_account(alloc: Global, program: &Program, plan: Plan) -> Result<Account, AllocError>
-    requires formed { IsWellFormed (tree_of program.now) }
-    requires limits { IsWithinLimits (tree_of program.now) }
     requires accepted { IsAccepted (tree_of program.now) plan }
     ensures plan { IfOk result (λ a. a.plan ≡ plan) }
     ensures told { IfOk result (λ a. AreAnswers (tree_of program.now) a
@@ -342,7 +325,6 @@ pub fn refused_account(
     plan: Plan,
     number: u64,
 ) -> Result<Account, AllocError>
-    requires formed { IsWellFormed (tree_of program.now) }
     requires fits { IsFit (tree_of program.now) plan }
     requires refused { IsRefusedFor (tree_of program.now) plan number }
     ensures plan { IfOk result (λ a. a.plan ≡ plan) }
@@ -367,7 +349,6 @@ fn found_numbered(
     plan: &Plan,
     number: u64,
 ) -> Result<Found, AllocError>
-    requires formed { IsWellFormed (tree_of program.now) }
     requires shape { wrong_field (tree_of program.now) plan.now ≡ None }
     requires refused { IsRefusedFor (tree_of program.now) plan.now number }
     ensures { IfOk result (IsFoundIn (obligations_of (tree_of program.now) plan.now)

@@ -2,9 +2,8 @@
 
 ghost use Rattle.std.specs.Prelude.{◌≡◌, ◌≤◌, ◌<◌, ◌^◌, ◌++◌, IfOk, IsTrue, OnOk, Some, length, map, slice_get};
 ghost use Rattle.std.specs.List.{list_all};
-ghost use Rattle.nest_tree.specs.Limits.{IsWithinLimits};
 ghost use Rattle.nest_tree.specs.View.{tree_of};
-ghost use Rattle.nest_tree.specs.WellFormed.{IsWellFormed, loops_of};
+ghost use Rattle.nest_tree.specs.WellFormed.{loops_of};
 ghost use Rattle.sync_plan.specs.Fit.{IsFit};
 ghost use Rattle.comm_system.specs.PhaseViews.{phase_seen};
 ghost use Rattle.comm_system.specs.References.{phases_of};
@@ -46,8 +45,6 @@ impl Asked {
         plan: &Plan,
         phases: &[Phase],
     ) -> Result<Asked, AllocError>
-        requires formed { IsWellFormed (tree_of program.now) }
-        requires limits { IsWithinLimits (tree_of program.now) }
         requires fits { IsFit (tree_of program.now) plan.now }
         requires phases { map phase_seen phases.now
             ≡ phases_of (tree_of program.now) plan.now.cut.marks }
@@ -106,7 +103,6 @@ fn made_phases(alloc: Global, reasons: &[PhaseReason]) -> Result<Vec<Candidate>,
 
 // Of a plan that is given all tries of the loops that aren't dealt out.
 fn given_loops(alloc: Global, program: &Program, plan: &Plan) -> Result<Vec<Serial>, AllocError>
-    requires formed { IsWellFormed (tree_of program.now) }
     requires marks { length plan.now.cut.marks ≡ loops_of (tree_of program.now).items }
     ensures { IfOk result (λ loops. map serial_question loops.items
         ≡ map try_question (all_attempts (tree_of program.now) (open_loops 1 plan.now.cut.marks))) }
@@ -136,7 +132,6 @@ fn push_open(
     number: u32,
     loops: &mut Vec<Serial>,
 ) -> Result<(), AllocError>
-    requires formed { IsWellFormed (tree_of program.now) }
     requires some { 1 ≤ number }
     requires there { number ≤ loops_of (tree_of program.now).items }
     ensures { OnOk result (map serial_question loops.new.items ≡ map serial_question loops.old.items
@@ -155,7 +150,6 @@ fn push_tries(
     number: u32,
     loops: &mut Vec<Serial>,
 ) -> Result<(), AllocError>
-    requires formed { IsWellFormed (tree_of program.now) }
     requires some { 1 ≤ number }
     requires there { number ≤ loops_of (tree_of program.now).items }
     ensures { OnOk result (map serial_question loops.new.items ≡ map serial_question loops.old.items
@@ -179,8 +173,6 @@ fn given_phases(
     plan: &Plan,
     phases: &[Phase],
 ) -> Result<Vec<Candidate>, AllocError>
-    requires formed { IsWellFormed (tree_of program.now) }
-    requires limits { IsWithinLimits (tree_of program.now) }
     requires fits { IsFit (tree_of program.now) plan.now }
     requires phases { map phase_seen phases.now
         ≡ phases_of (tree_of program.now) plan.now.cut.marks }

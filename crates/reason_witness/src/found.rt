@@ -3,7 +3,6 @@
 ghost use Rattle.std.specs.Prelude.{◌≡◌, ◌↔◌, [], ◌∷◌, IfOk, IsTrue, None, false, map, true};
 ghost use Rattle.std.specs.List.{flat_map};
 ghost use Rattle.nest_tree.specs.View.{tree_of};
-ghost use Rattle.nest_tree.specs.WellFormed.{IsWellFormed};
 ghost use Rattle.sync_plan.specs.Shape.{wrong_field};
 ghost use Rattle.comm_system.specs.GroupViews.{group_seen};
 ghost use Rattle.comm_system.specs.Obligations.{obligations_of};
@@ -239,7 +238,6 @@ impl Planned<'_> {
 
     // Of the plan's obligations the one that is looked for.
     fn found_once(&self, alloc: Global, wanted: &Wanted) -> Result<Option<Found>, AllocError>
-        requires { IsWellFormed (tree_of self.now.program.now) }
         ensures { IfOk result
             (IsSearched self.now.is_whole
             (obligations_of (tree_of self.now.program.now) self.now.plan.now) wanted.now) }
@@ -256,7 +254,6 @@ impl Planned<'_> {
     /// Of the plan's obligations the one that is looked for: where it may stand, and then anywhere. An
     /// error says that memory ran out.
     pub(crate) fn found(&self, alloc: Global, wanted: &Wanted) -> Result<Option<Found>, AllocError>
-        requires { IsWellFormed (tree_of self.now.program.now) }
         ensures { IfOk result
             (IsSearched true
             (obligations_of (tree_of self.now.program.now) self.now.plan.now) wanted.now) }

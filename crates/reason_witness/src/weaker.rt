@@ -2,9 +2,7 @@
 
 ghost use Rattle.std.specs.Prelude.{◌≡◌, ◌-◌, ◌<◌, ◌^◌, IfOk, IsTrue, None, false, length, map, slice_set, true};
 ghost use Rattle.std.specs.List.{Contains, list_all};
-ghost use Rattle.nest_tree.specs.Limits.{IsWithinLimits};
 ghost use Rattle.nest_tree.specs.View.{tree_of};
-ghost use Rattle.nest_tree.specs.WellFormed.{IsWellFormed};
 ghost use Rattle.sync_plan.specs.Shape.{wrong_field};
 ghost use Rattle.comm_system.specs.Obligations.{numbered_from, slot_signature as signature_under, slot_tasks, tasks_of};
 ghost use Rattle.comm_system.specs.PhaseViews.{phase_seen};
@@ -61,8 +59,6 @@ pub(crate) struct Ground<'k, 'b, 'a> {
     pub(crate) first_pair: u64,
     /// Whether all obligations are looked at, and not only those where what is looked for may stand.
     pub(crate) is_whole: bool,
-    ghost formed: { IsWellFormed (tree_of program.now) },
-    ghost limits: { IsWithinLimits (tree_of program.now) },
     ghost shape: { wrong_field (tree_of program.now) plan.now ≡ None },
     ghost few: { length phases.now < 2 ^ 20 },
 }

@@ -9,7 +9,7 @@ use Rattle.nest_tree.specs.Tree.{Printed, value, whole, text, Tree}
 use Rattle.nest_tree.specs.View.{printed_of, tree_of}
 use Rattle.nest_tree.specs.WellFormed.{IsWellFormed}
 use Rattle.nest_tree.specs.declared.tree.PrintItem.{PrintItem}
-use Rattle.nest_tree.specs.declared.tree.Program.{Program}
+use Rattle.nest_tree.specs.declared.program.Program.{Program}
 use Rattle.nest_tree.specs.declared.tree.Variable.{Variable}
 use Rattle.nest_tree.proofs.Cells.{declared-numbered}
 use Rattle.nest_tree.proofs.Places.{element_count-some}

@@ -5,7 +5,6 @@ ghost use Rattle.std.specs.List.{flat_map, list_all};
 ghost use Rattle.nest_tree.specs.Layout.{bounds_of, element_count};
 ghost use Rattle.nest_tree.specs.Tree.{param_values};
 ghost use Rattle.nest_tree.specs.View.{printed_of, tree_of};
-ghost use Rattle.nest_tree.specs.WellFormed.{IsWellFormed};
 ghost use Rattle.nest_model.specs.Memory.{items_text, number_text};
 ghost use Rattle.seq_meaning.specs.Lines.{has_text, item_load_count, item_text, items_load_count};
 ghost use Rattle.seq_meaning.specs.Room.{longest_item, longest_items};
@@ -23,7 +22,6 @@ impl Output {
         items: &[PrintItem],
         given: &Given,
     ) -> Result<(), AllocError>
-        requires formed { IsWellFormed (tree_of program.now) }
         requires params { given.now.params.now ≡ param_values (tree_of program.now) }
         requires texts { IsTrue
             (list_all (has_text (tree_of program.now) (length given.now.loops.now))
@@ -54,7 +52,6 @@ impl Output {
         given: &Given,
         at: &mut usize,
     ) -> Result<(), AllocError>
-        requires formed { IsWellFormed (tree_of program.now) }
         requires params { given.now.params.now ≡ param_values (tree_of program.now) }
         requires texts { IsTrue (has_text (tree_of program.now) (length given.now.loops.now)
             (printed_of item.now)) }
@@ -87,7 +84,6 @@ impl Output {
         given: &Given,
         at: &mut usize,
     ) -> Result<(), AllocError>
-        requires formed { IsWellFormed (tree_of program.now) }
         requires low { 1 ≤ variable }
         requires high { variable ≤ length (tree_of program.now).variables }
         requires loads { element_count (bounds_of (tree_of program.now) variable) ≤ length

@@ -2,10 +2,8 @@
 
 ghost use Rattle.std.specs.Prelude.{◌≡◌, ◌++◌, IfOk, IsTrue, OnOk, fold};
 ghost use Rattle.std.specs.List.{list_all};
-ghost use Rattle.nest_tree.specs.Limits.{IsWithinLimits};
 ghost use Rattle.nest_tree.specs.Tree.{Assignment, Work, assign, work};
 ghost use Rattle.nest_tree.specs.View.{statement_of, tree_of};
-ghost use Rattle.nest_tree.specs.WellFormed.{IsWellFormed};
 ghost use Rattle.nest_model.specs.Memory.{last_memory, memory_after, output_from, output_of};
 ghost use Rattle.nest_model.specs.Ranges.{IsInRange, is_instance_inside};
 ghost use Rattle.nest_walk.specs.CellForms.{cell_at};
@@ -28,8 +26,6 @@ const MOST_STATEMENTS: usize = 400;
 /// Runs a program's instances in sequential order, from a memory of zeros: the last memory, by
 /// cells, and the whole output.
 pub fn run_sequential(alloc: Global, program: &Program) -> Result<(Vec<i64>, Output), AllocError>
-    requires formed { IsWellFormed (tree_of program.now) }
-    requires limits { IsWithinLimits (tree_of program.now) }
     requires ranges { IsInRange (tree_of program.now) }
     ensures memory { IfOk result (λ end. end.0.items ≡ last_memory (tree_of program.now)) }
     ensures output { IfOk result (λ end. end.1.bytes ≡ output_of (tree_of program.now)) }
@@ -63,8 +59,6 @@ impl<'a> Run<'a> {
 
     // A run in front of its first instance.
     fn new(alloc: Global, program: &'a Program) -> Result<Self, AllocError>
-        requires formed { IsWellFormed (tree_of program.now) }
-        requires limits { IsWithinLimits (tree_of program.now) }
         ensures ready { IfOk result (λ run. IsReady run) }
         ensures program { IfOk result (λ run. run.program.now ≡ program.now) }
         ensures memory { IfOk result (λ run. run.memory.items
@@ -97,7 +91,6 @@ impl<'a> Run<'a> {
 
     // The execution of these instances.
     fn execute_all(&mut self, instances: Instances) -> Result<(), AllocError>
-        requires formed { IsWellFormed (tree_of self.old.program.now) }
         requires ready { IsReady self.old }
         requires walked { instances_tree instances ≡ (tree_of self.old.program.now) }
         requires inside { IsTrue (list_all (is_instance_inside (tree_of self.old.program.now))
@@ -126,7 +119,6 @@ impl<'a> Run<'a> {
     // The trips of a loop round one assignment, which is always executed.
     #[inline(never)]
     fn repeat(&mut self, strip: Strip)
-        requires formed { IsWellFormed (tree_of self.old.program.now) }
         requires ready { IsReady self.old }
         requires walked { strip_tree strip ≡ tree_of self.old.program.now }
         requires inside { IsTrue (list_all (is_instance_inside (tree_of self.old.program.now))
@@ -163,7 +155,6 @@ impl<'a> Run<'a> {
 
     // The execution of an assignment with these loops round it, whose values are written.
     fn assign(&mut self, stop: Stop, path: &Path)
-        requires formed { IsWellFormed (tree_of self.old.program.now) }
         requires ready { IsReady self.old }
         requires written { IsWritten self.old (rounds_of path.now) }
         requires placed { IsPlacedWork (tree_of self.old.program.now)
@@ -193,7 +184,6 @@ impl<'a> Run<'a> {
 
     // The execution of a piece of work with these loops round it.
     fn execute(&mut self, stop: Stop, path: &Path) -> Result<(), AllocError>
-        requires formed { IsWellFormed (tree_of self.old.program.now) }
         requires ready { IsReady self.old }
         requires placed { IsPlacedWork (tree_of self.old.program.now)
             (rounds_of path.now) stop.first (statement_of stop.item.now) }

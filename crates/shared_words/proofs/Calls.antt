@@ -5,7 +5,7 @@ use Rattle.std.specs.Int.{w64, cast_signed, cast_unsigned}
 use Rattle.std.proofs.lemmas.Bool.{le-leb, lt-leb}
 use Rattle.std.proofs.lemmas.Int.{of_z-to_z, to_z-of_z, wrapping_add_onto}
 use Rattle.atomic_table.specs.Seated.{TableId}
-use Rattle.nest_tree.specs.declared.tree.Program.{Program}
+use Rattle.nest_tree.specs.declared.program.Program.{Program}
 use Rattle.sync_plan.specs.declared.plan.Plan.{Plan}
 use Rattle.spmd_model.specs.Cells.{plus}
 use Rattle.spmd_model.specs.declared.style.Style.{Style}

@@ -2,7 +2,7 @@
 use Rattle.std.specs.Prelude.{ℕ, ℤ, List, Option, refl}
 use Rattle.std.specs.Coded.{Coded, code_by, coded×, coded_ℕ, coded_ℤ, coded_list, coded_option}
 use Rattle.atomic_table.specs.Seated.{TableId, table_id_coded}
-use Rattle.nest_tree.specs.contracts.tree.Program as programs
+use Rattle.nest_tree.specs.contracts.program.Program as programs
 use Rattle.sync_plan.specs.contracts.plan.Plan as plans
 use Rattle.spmd_model.specs.contracts.style.Style as styles
 use Rattle.shared_words.specs.contracts.roles.Stage as stages

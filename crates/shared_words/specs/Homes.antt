@@ -1,7 +1,7 @@
 -- What contracts see of a table and of its seats.
 use Rattle.std.specs.Prelude.{ℕ, ℤ, ◌+◌, ◌*◌, ◌≡◌, ◌<◌, List, [], Option, Some, None, slice_set}
 use Rattle.atomic_table.specs.Seated.{TableId}
-use Rattle.nest_tree.specs.declared.tree.Program.{Program}
+use Rattle.nest_tree.specs.declared.program.Program.{Program}
 use Rattle.nest_tree.specs.Tree.{Tree, done}
 use Rattle.nest_tree.specs.View.{tree_of}
 use Rattle.owner_partition.specs.Cuts.{plain_cut}

@@ -2,8 +2,6 @@
 
 ghost use Rattle.std.specs.Prelude.{◌≡◌, ◌<◌, ◌-◌, IfOk, IfErr, Some, replicate, slice_get};
 ghost use Rattle.nest_tree.specs.View.{tree_of};
-ghost use Rattle.nest_tree.specs.Limits.{IsWithinLimits};
-ghost use Rattle.nest_tree.specs.WellFormed.{IsWellFormed};
 ghost use Rattle.nest_model.specs.Ranges.{IsInRange};
 ghost use Rattle.sync_plan.specs.Fit.{IsFit};
 ghost use Rattle.sync_plan.specs.Ordered.{IsOrdered};
@@ -149,8 +147,6 @@ impl<'a> Cells<'a> {
         program: &'a Program,
         plan: &'a Plan,
     ) -> Result<(Cells<'a>, MainSeat), AllocError>
-        requires formed { IsWellFormed (tree_of program.now) }
-        requires limits { IsWithinLimits (tree_of program.now) }
         requires ranges { IsInRange (tree_of program.now) }
         requires fits { IsFit (tree_of program.now) plan.now }
         requires ordered { IsOrdered (tree_of program.now) plan.now }
@@ -169,8 +165,6 @@ impl<'a> Cells<'a> {
         plan: &'a Plan,
         style: Style,
     ) -> Result<(Cells<'a>, MainSeat), AllocError>
-        requires formed { IsWellFormed (tree_of program.now) }
-        requires limits { IsWithinLimits (tree_of program.now) }
         requires ranges { IsInRange (tree_of program.now) }
         requires fits { IsFit (tree_of program.now) plan.now }
         requires ordered { IsOrdered (tree_of program.now) plan.now }

@@ -2,7 +2,7 @@
 use Rattle.std.proofs.Common.{◌≡◌, ◌∙◌, IfOk, Result, Some, refl, sym, ap, subst}
 use Rattle.nest_tree.specs.Tree.{Tree}
 use Rattle.nest_tree.specs.View.{tree_of}
-use Rattle.nest_tree.specs.declared.tree.Program.{Program}
+use Rattle.nest_tree.specs.declared.program.Program.{Program}
 use Rattle.nest_model.specs.Memory.{last_memory}
 use Rattle.sync_plan.specs.declared.plan.Plan.{Plan}
 use Rattle.spmd_model.specs.declared.style.Style.{Style}

@@ -1,6 +1,6 @@
 -- What a receipt says, whichever engine gave it.
 use Rattle.std.specs.Prelude.{ℤ, List, Option, Some, None}
-use Rattle.nest_tree.specs.declared.tree.Program.{Program}
+use Rattle.nest_tree.specs.declared.program.Program.{Program}
 use Rattle.sync_plan.specs.declared.plan.Plan.{Plan}
 use Rattle.spmd_machine.specs.Ends as core
 use Rattle.fork_join.specs.Ends as join

@@ -2,7 +2,7 @@
 use Rattle.std.specs.Prelude.{ℕ, ℤ, ◌≡◌, ◌≢◌, true, List, Option, Some, None}
 use Rattle.nest_tree.specs.Tree.{Tree}
 use Rattle.nest_tree.specs.View.{tree_of}
-use Rattle.nest_tree.specs.declared.tree.Program.{Program}
+use Rattle.nest_tree.specs.declared.program.Program.{Program}
 use Rattle.nest_model.specs.Memory.{last_memory}
 use Rattle.sync_plan.specs.declared.plan.Plan.{Plan}
 use Rattle.f77_lines.specs.Listing.{entries_of}

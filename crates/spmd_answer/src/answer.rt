@@ -2,9 +2,7 @@
 
 ghost use Rattle.std.specs.Prelude.{◌≡◌, ◌≤◌, ℕ, List, IfOk, codes, drop, length, map};
 ghost use Rattle.clap.specs.Words.{Text};
-ghost use Rattle.nest_tree.specs.Limits.{IsWithinLimits};
 ghost use Rattle.nest_tree.specs.View.{tree_of};
-ghost use Rattle.nest_tree.specs.WellFormed.{IsWellFormed};
 ghost use Rattle.nest_model.specs.Ranges.{IsInRange};
 ghost use Rattle.command_words.specs.Wanted.{IsCounted, bench, planned, run as by_plan, sequential, verify, wanted};
 ghost use Rattle.f77_source.specs.Sources.{setting_of};
@@ -86,8 +84,6 @@ pub fn answer_on<R: Threads + Sync, G: Gate + Sync>(
     requires short { length input.now.bytes.now ≤ MOST_BYTES }
     requires behind { length input.now.behind.now ≤ MOST_BYTES }
     requires counted { IsCounted (wanted request.now) }
-    requires formed { IsWellFormed (tree_of program.now) }
-    requires limits { IsWithinLimits (tree_of program.now) }
     requires ranges { IsInRange (tree_of program.now) }
     ensures due { IfOk result (λ r. IsDueOn (wanted request.now) (tree_of program.now)
         (readings_of input.now) input.now.behind.now (due_in r.0)) }
@@ -114,8 +110,6 @@ fn planned_run<R: Threads + Sync, G: Gate + Sync>(
     requires short { length input.now.behind.now ≤ MOST_BYTES }
     requires some { 1 ≤ run.workers }
     requires few { run.workers ≤ 64 }
-    requires formed { IsWellFormed (tree_of program.now) }
-    requires limits { IsWithinLimits (tree_of program.now) }
     requires ranges { IsInRange (tree_of program.now) }
     ensures due { (settings : List Text) (at : Readings)
         → IfOk result (λ r. IsDueOn (by_plan run.workers run.choice run.engine settings)
@@ -146,8 +140,6 @@ fn benched<R: Threads + Sync, G: Gate + Sync>(
 ) -> Result<(Answer, Option<Receipt>), AllocError>
     requires some { 1 ≤ sizes.workers }
     requires few { sizes.workers ≤ 64 }
-    requires formed { IsWellFormed (tree_of program.now) }
-    requires limits { IsWithinLimits (tree_of program.now) }
     requires ranges { IsInRange (tree_of program.now) }
     ensures due { (at : Readings) (bytes : List ℕ)
         → IfOk result (λ r. IsDueOn (bench sizes.workers sizes.points sizes.sweeps)
@@ -161,8 +153,6 @@ fn benched<R: Threads + Sync, G: Gate + Sync>(
 }
 
 fn sequential_run(alloc: Global, program: &Program) -> Result<(Answer, Option<Receipt>), AllocError>
-    requires formed { IsWellFormed (tree_of program.now) }
-    requires limits { IsWithinLimits (tree_of program.now) }
     requires ranges { IsInRange (tree_of program.now) }
     ensures due { (settings : List Text) (at : Readings) (bytes : List ℕ)
         → IfOk result (λ r. IsDueOn (sequential settings) (tree_of program.now) at bytes
@@ -182,8 +172,6 @@ fn verified<R: Threads + Sync>(
     bytes: &[u8],
 ) -> Result<(Answer, Option<Receipt>), AllocError>
     requires short { length bytes.now ≤ MOST_BYTES }
-    requires formed { IsWellFormed (tree_of program.now) }
-    requires limits { IsWithinLimits (tree_of program.now) }
     ensures due { (settings : List Text) (at : Readings)
         → IfOk result (λ r. IsDueOn (verify settings) (tree_of program.now) at bytes.now
         (due_in r.0)) }
@@ -209,8 +197,6 @@ fn made_plan(
     program: &Program,
     workers: u32,
 ) -> Result<(Answer, Option<Receipt>), AllocError>
-    requires formed { IsWellFormed (tree_of program.now) }
-    requires limits { IsWithinLimits (tree_of program.now) }
     requires some { 1 ≤ workers }
     requires few { workers ≤ 64 }
     ensures due { (settings : List Text) (at : Readings) (bytes : List ℕ)

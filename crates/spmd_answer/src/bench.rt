@@ -1,9 +1,7 @@
 // The program that `bench` runs, and what it writes.
 
 ghost use Rattle.std.specs.Prelude.{◌≡◌, ◌≤◌, ◌++◌, ℕ, List, IfOk, OnOk, map, string_bytes};
-ghost use Rattle.nest_tree.specs.Limits.{IsWithinLimits};
 ghost use Rattle.nest_tree.specs.View.{tree_of};
-ghost use Rattle.nest_tree.specs.WellFormed.{IsWellFormed};
 ghost use Rattle.nest_model.specs.Ranges.{IsInRange};
 ghost use Rattle.command_words.specs.Wanted as wanted;
 ghost use Rattle.spmd_answer.specs.Bench as texts;
@@ -44,8 +42,6 @@ pub fn bench_run<R: Threads + Sync, G: Gate + Sync>(
     program: &Program,
     bench: Bench,
 ) -> Result<(Vec<u8>, Receipt), AllocError>
-    requires formed { IsWellFormed (tree_of program.now) }
-    requires limits { IsWithinLimits (tree_of program.now) }
     requires ranges { IsInRange (tree_of program.now) }
     requires some { 1 ≤ bench.workers }
     requires few { bench.workers ≤ 64 }

@@ -1,9 +1,7 @@
 // What a run by a plan writes, and what a sequential one does.
 
 ghost use Rattle.std.specs.Prelude.{◌≡◌, ◌++◌, IfOk};
-ghost use Rattle.nest_tree.specs.Limits.{IsWithinLimits};
 ghost use Rattle.nest_tree.specs.View.{tree_of};
-ghost use Rattle.nest_tree.specs.WellFormed.{IsWellFormed};
 ghost use Rattle.nest_model.specs.Memory.{output_of};
 ghost use Rattle.nest_model.specs.Ranges.{IsInRange};
 ghost use Rattle.plan_text.specs.PlanText.{HasCounts, plan_text};
@@ -32,8 +30,6 @@ use sync_plan::Plan;
 
 /// What a program prints. The error is that memory ran out.
 pub fn sequential_output(alloc: Global, program: &Program) -> Result<Vec<u8>, AllocError>
-    requires formed { IsWellFormed (tree_of program.now) }
-    requires limits { IsWithinLimits (tree_of program.now) }
     requires ranges { IsInRange (tree_of program.now) }
     ensures { IfOk result (λ text. text.items ≡ output_of (tree_of program.now)) }
 {
@@ -49,8 +45,6 @@ pub fn text_of_run<R: Threads + Sync, G: Gate + Sync>(
     plan: &Plan,
     engine: Engine,
 ) -> Result<(Vec<u8>, Receipt), AllocError>
-    requires formed { IsWellFormed (tree_of program.now) }
-    requires limits { IsWithinLimits (tree_of program.now) }
     requires ranges { IsInRange (tree_of program.now) }
     requires fits { IsFit (tree_of program.now) plan.now }
     requires ordered { IsOrdered (tree_of program.now) plan.now }
@@ -81,8 +75,6 @@ pub fn output_by<R: Threads + Sync, G: Gate + Sync>(
     plan: &Plan,
     engine: Engine,
 ) -> Result<(Vec<u8>, Receipt), AllocError>
-    requires formed { IsWellFormed (tree_of program.now) }
-    requires limits { IsWithinLimits (tree_of program.now) }
     requires ranges { IsInRange (tree_of program.now) }
     requires fits { IsFit (tree_of program.now) plan.now }
     requires ordered { IsOrdered (tree_of program.now) plan.now }
@@ -120,8 +112,6 @@ fn core_run(
     plan: &Plan,
     style: Style,
 ) -> Result<(Vec<u8>, Receipt), AllocError>
-    requires formed { IsWellFormed (tree_of program.now) }
-    requires limits { IsWithinLimits (tree_of program.now) }
     requires ranges { IsInRange (tree_of program.now) }
     requires fits { IsFit (tree_of program.now) plan.now }
     requires ordered { IsOrdered (tree_of program.now) plan.now }
@@ -130,8 +120,8 @@ fn core_run(
 {
     let mut machine = Machine::new(alloc, program, plan, style)?;
     machine.round_robin();
-    let output = machine.output().as_slice().to_vec(alloc)?;
-    Ok((output, Receipt::Core(CoreReceipt::of(machine))))
+    let (receipt, output) = CoreReceipt::of(machine);
+    Ok((output.into_bytes(), Receipt::Core(receipt)))
 }
 
 // The same by fork and join, whose workers pass the gate.
@@ -140,8 +130,6 @@ fn join_run<R: Threads + Sync, G: Gate + Sync>(
     program: &Program,
     plan: &Plan,
 ) -> Result<(Vec<u8>, Receipt), AllocError>
-    requires formed { IsWellFormed (tree_of program.now) }
-    requires limits { IsWithinLimits (tree_of program.now) }
     requires ranges { IsInRange (tree_of program.now) }
     requires fits { IsFit (tree_of program.now) plan.now }
     requires ordered { IsOrdered (tree_of program.now) plan.now }
@@ -159,8 +147,6 @@ fn spmd_run<R: Threads + Sync, G: Gate + Sync>(
     plan: &Plan,
     style: Style,
 ) -> Result<(Vec<u8>, Receipt), AllocError>
-    requires formed { IsWellFormed (tree_of program.now) }
-    requires limits { IsWithinLimits (tree_of program.now) }
     requires ranges { IsInRange (tree_of program.now) }
     requires fits { IsFit (tree_of program.now) plan.now }
     requires ordered { IsOrdered (tree_of program.now) plan.now }

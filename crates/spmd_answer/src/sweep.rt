@@ -2,9 +2,7 @@
 
 ghost use Rattle.std.specs.Prelude.{◌≡◌, ◌≤◌, ◌^◌, ◌≤ℤ◌, ◌+ℤ◌, pos, List, IfOk, IsTrue, length, map};
 ghost use Rattle.clap.specs.Words.{Text};
-ghost use Rattle.nest_tree.specs.Limits.{IsWithinLimits};
 ghost use Rattle.nest_tree.specs.View.{tree_of};
-ghost use Rattle.nest_tree.specs.WellFormed.{IsWellFormed};
 ghost use Rattle.command_words.specs.Sweeps.{are_bounds, sweep_of};
 ghost use Rattle.command_words.specs.Wanted.{swept as wanted_sweep, wanted};
 ghost use Rattle.f77_source.specs.Sources.{setting_of};
@@ -101,8 +99,6 @@ pub fn swept<R: Threads + Sync, G>(
     requires short { length input.now.bytes.now ≤ MOST_BYTES }
     requires behind { length input.now.behind.now ≤ MOST_BYTES }
     requires bounds { IsTrue (are_bounds sweep.now.low sweep.now.high) }
-    requires formed { IsWellFormed (tree_of program.now) }
-    requires limits { IsWithinLimits (tree_of program.now) }
     ensures { (settings : List Text)
         → IfOk result (λ a. IsDueOn (wanted_sweep (sweep_of sweep.now) settings)
         (tree_of program.now) (readings_of input.now) input.now.behind.now (due_in a)) }
@@ -197,8 +193,6 @@ fn reading_text(
 
 // Why a plan that is proved on one program doesn't fit another, or that it is accepted there.
 fn fit_text(alloc: Global, proven: &Proven, program: &Program) -> Result<Vec<u8>, AllocError>
-    requires formed { IsWellFormed (tree_of program.now) }
-    requires limits { IsWithinLimits (tree_of program.now) }
     ensures { IfOk result (λ t. t.items
         ≡ text_of_fit (first_unfit (tree_of proven.now.program.now) proven.now.plan.now
         (tree_of program.now))) }

@@ -3,8 +3,8 @@ use Rattle.std.specs.Prelude.{ℕ, ℤ, ◌≡◌, ◌<◌, All, List, refl, tak
 use Rattle.std.specs.Coded.{Coded, code_by, coded×, coded_ℤ, coded_list}
 use Rattle.nest_tree.specs.Layout.{cell_count}
 use Rattle.nest_tree.specs.View.{tree_of}
-use Rattle.nest_tree.specs.contracts.tree.Program as programs
-use Rattle.nest_tree.specs.declared.tree.Program.{Program}
+use Rattle.nest_tree.specs.contracts.program.Program as programs
+use Rattle.nest_tree.specs.declared.program.Program.{Program}
 use Rattle.sync_plan.specs.contracts.plan.Plan as plans
 use Rattle.sync_plan.specs.declared.plan.Plan.{Plan}
 use Rattle.spmd_model.specs.Runs.{IsEnded, run_of}

@@ -1,9 +1,7 @@
 // The machine: a program run under a plan, one act of one processor at a time.
 
 ghost use Rattle.std.specs.Prelude.{◌≡◌, ◌<◌, ◌≤◌, ℕ, IfOk, fold, length, map};
-ghost use Rattle.nest_tree.specs.Limits.{IsWithinLimits};
 ghost use Rattle.nest_tree.specs.View.{tree_of};
-ghost use Rattle.nest_tree.specs.WellFormed.{IsWellFormed};
 ghost use Rattle.nest_model.specs.Ranges.{IsInRange};
 ghost use Rattle.sync_plan.specs.Fit.{IsFit};
 ghost use Rattle.spmd_machine.specs.Processors.{AreFresh};
@@ -74,8 +72,6 @@ impl<'a> Machine<'a> {
         plan: &'a Plan,
         style: Style,
     ) -> Result<Self, AllocError>
-        requires formed { IsWellFormed (tree_of program.now) }
-        requires limits { IsWithinLimits (tree_of program.now) }
         requires ranges { IsInRange (tree_of program.now) }
         requires fits { IsFit (tree_of program.now) plan.now }
         ensures ready { IfOk result (λ m. IsMachine m) }
@@ -669,8 +665,6 @@ fn processors_of<'a>(
     style: Style,
     room: usize,
 ) -> Result<Vec<Processor<'a>>, AllocError>
-    requires formed { IsWellFormed (tree_of program.now) }
-    requires limits { IsWithinLimits (tree_of program.now) }
     requires fits { IsFit (tree_of program.now) plan.now }
     ensures count { IfOk result (λ v. length v.items ≡ plan.now.workers) }
     ensures fresh { IfOk result (λ v. AreFresh style (tree_of program.now) plan.now room v.items) }

@@ -11,6 +11,7 @@ ghost use Rattle.spmd_machine.specs.Machines.{IsMachine, model_of, plan_in, shar
 use crate::machine::Machine;
 use nest_tree::Program;
 use proof_note::Note;
+use seq_meaning::Output;
 use spmd_model::Style;
 use std::marker::Model;
 use sync_plan::Plan;
@@ -50,18 +51,19 @@ impl Model for Receipt {
 }
 
 impl Receipt {
-    /// The receipt of a machine whose processors have all ended.
-    pub fn of(machine: Machine<'_>) -> Receipt
+    /// The receipt of a machine whose processors have all ended, and what they printed.
+    pub fn of(machine: Machine<'_>) -> (Receipt, Output)
         requires ready { IsMachine machine }
         requires ended { IsEnded (model_of machine) (shown machine) }
-        ensures program { tree_of result.program ≡ tree_in machine.entry }
-        ensures plan { result.plan ≡ plan_in machine.entry }
-        ensures style { result.style ≡ style_in machine.entry }
-        ensures memory { result.memory
+        ensures program { tree_of result.0.program ≡ tree_in machine.entry }
+        ensures plan { result.0.plan ≡ plan_in machine.entry }
+        ensures style { result.0.style ≡ style_in machine.entry }
+        ensures memory { result.0.memory
             ≡ take (shared_in machine.entry) (shown machine.entry).memory }
         ensures last { IsOrdered (tree_in machine.entry) (plan_in machine.entry)
-            → result.memory ≡ last_memory (tree_in machine.entry) }
-        ensures run { HasRun result }
+            → result.0.memory ≡ last_memory (tree_in machine.entry) }
+        ensures run { HasRun result.0 }
+        ensures output { result.1.bytes ≡ (shown machine.entry).output }
     {
         let Machine {
             program,
@@ -74,16 +76,17 @@ impl Receipt {
             code_registers: _,
             processors: _,
             memory,
-            output: _,
+            output,
         } = machine;
         let program = Note::of(program);
         let plan = Note::of(plan);
-        Receipt {
+        let receipt = Receipt {
             program,
             plan,
             style,
             memory,
-        }
+        };
+        (receipt, output)
     }
 
     /// The last memory, by cells, of those that all share.

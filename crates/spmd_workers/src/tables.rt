@@ -1,9 +1,7 @@
 // What all workers of a program look up.
 
 ghost use Rattle.std.specs.Prelude.{◌≡◌, IfOk, Some};
-ghost use Rattle.nest_tree.specs.Limits.{IsWithinLimits};
 ghost use Rattle.nest_tree.specs.View.{tree_of};
-ghost use Rattle.nest_tree.specs.WellFormed.{IsWellFormed};
 ghost use Rattle.nest_model.specs.Ranges.{IsInRange};
 ghost use Rattle.sync_plan.specs.Fit.{IsFit};
 
@@ -58,8 +56,6 @@ impl<'a> Tables<'a> {
         plan: &'a Plan,
         style: Style,
     ) -> Result<Self, AllocError>
-        requires formed { IsWellFormed (tree_of program.now) }
-        requires limits { IsWithinLimits (tree_of program.now) }
         requires ranges { IsInRange (tree_of program.now) }
         requires fits { IsFit (tree_of program.now) plan.now }
         ensures given { IfOk result (λ t. t ≡ Some (program.now, (plan.now, style))) }

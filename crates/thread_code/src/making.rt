@@ -4,7 +4,6 @@ ghost use Rattle.std.specs.Prelude.{◌≡◌, ◌+◌, ◌+ℤ◌, ◌*ℤ◌, 
 ghost use Rattle.std.specs.Int.{int_rem_euclid};
 ghost use Rattle.std.specs.Option.{option_copied};
 ghost use Rattle.nest_tree.specs.View.{head_of, statement_of, statements_from, tree_of};
-ghost use Rattle.nest_tree.specs.WellFormed.{IsWellFormed};
 ghost use Rattle.nest_model.specs.Visits.{stops_in, stops_of};
 ghost use Rattle.owner_partition.specs.Cuts.{privates_of};
 ghost use Rattle.owner_partition.specs.Marks.{enters_outer};
@@ -32,8 +31,7 @@ pub fn code_of<'p>(
     requires some { 1 ≤ plan.now.workers }
     requires few { plan.now.workers ≤ 64 }
     ensures turnings { IfOk result (λ c. AreTurnings plan.now.workers (table_of c.turnings)) }
-    ensures tree { IsWellFormed (tree_of program.now)
-        → IfOk result (λ c. codes_view c.codes.items
+    ensures tree { IfOk result (λ c. codes_view c.codes.items
         ≡ codes_of (table_of c.turnings) (tree_of program.now) plan.now) }
 {
     let turnings = Turnings::new(alloc, plan.workers)?;

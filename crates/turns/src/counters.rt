@@ -2,10 +2,9 @@
 // of turns.rt are made of these.
 
 ghost use Rattle.std.specs.Prelude.{◌≡◌, ◌<◌, ◌≤◌, ◌-◌, ℕ, suc, List, [], ◌∷◌, ◌++◌, IfSome, MatchOption, Some, length, map, min, slice_get, true, false};
-ghost use Rattle.nest_tree.specs.Limits.{IsWithinLimits, most_work};
+ghost use Rattle.nest_tree.specs.Limits.{most_work};
 ghost use Rattle.nest_tree.specs.Tree.{param_values};
 ghost use Rattle.nest_tree.specs.View.{tree_of};
-ghost use Rattle.nest_tree.specs.WellFormed.{IsWellFormed};
 ghost use Rattle.nest_model.specs.Visits.{Visit};
 ghost use Rattle.nest_walk.specs.InstancesLeft.{instances_left};
 ghost use Rattle.owner_partition.specs.Phases.{phases as phases_of};
@@ -78,8 +77,6 @@ impl<'a> CounterTurns<'a> {
 
     // All turns of a processor.
     pub(crate) fn new(program: &'a Program, plan: &'a Plan, processor: u32) -> Self
-        requires formed { IsWellFormed (tree_of program.now) }
-        requires limits { IsWithinLimits (tree_of program.now) }
         requires fits { IsFit (tree_of program.now) plan.now }
         requires worker { processor < plan.now.workers }
         ensures sound { AreSoundCounters result }
@@ -351,7 +348,6 @@ fn passed_by(kind: &Kind, workers: u32) -> Boundary
 // Whether processor `p` posts in front of the phase that was given last, which is one of this static
 // phase, and the word of those for which it waits there: bit q is processor q.
 fn waits_before(plan: &Plan, phases: &PhaseCursor<'_>, place: u32, p: u32) -> (bool, u64)
-    requires formed { IsWellFormed (phases_tree phases.now) }
     requires fits { IsFit (phases_tree phases.now) plan.now }
     requires worker { p < plan.now.workers }
     ensures posts { (v : Visit) → phase_last phases.now ≡ Some v
@@ -373,7 +369,6 @@ fn waits_before(plan: &Plan, phases: &PhaseCursor<'_>, place: u32, p: u32) -> (b
 // The processor that the kind in front of that phase names there: the number of workers where that
 // is none of them, and 0 where the kind has no anchor.
 fn owner_before(plan: &Plan, phases: &PhaseCursor<'_>, kind: &Kind, place: u32) -> u32
-    requires formed { IsWellFormed (phases_tree phases.now) }
     requires fits { IsFit (phases_tree phases.now) plan.now }
     requires kind { slice_get plan.now.kinds (place - 1) ≡ Some kind.now }
     ensures { (v : Visit) → phase_last phases.now ≡ Some v

@@ -1,14 +1,11 @@
 // What a processor does, turn by turn.
 
-ghost use Rattle.std.specs.Prelude.{◌≡◌, ◌<◌, ◌≤◌, ℕ, List, [], slice_get};
-ghost use Rattle.nest_tree.specs.Limits.{IsWithinLimits};
+ghost use Rattle.std.specs.Prelude.{◌≡◌, ◌<◌, ℕ, List, [], slice_get};
 ghost use Rattle.nest_tree.specs.View.{tree_of};
-ghost use Rattle.nest_tree.specs.WellFormed.{IsWellFormed};
 ghost use Rattle.nest_walk.specs.RoundsOf.{rounds_of};
 ghost use Rattle.owner_partition.specs.Phases.{phases as phases_of};
 ghost use Rattle.sync_plan.specs.Fit.{IsFit};
 ghost use Rattle.turns.specs.CounterTurns.{counter_turns};
-ghost use Rattle.nest_tree.specs.Layout.{cell_count};
 ghost use Rattle.std.specs.Prelude.{MatchOption, Bool, ◌-◌, ◌==◌, not, length};
 ghost use Rattle.std.specs.List.{list_any};
 ghost use Rattle.owner_partition.specs.Marks.{is_sum_mark};
@@ -105,8 +102,6 @@ impl<'a> Turns<'a> {
 
     /// All turns of a processor.
     pub fn new(program: &'a Program, plan: &'a Plan, style: Style, processor: u32) -> Self
-        requires formed { IsWellFormed (tree_of program.now) }
-        requires limits { IsWithinLimits (tree_of program.now) }
         requires fits { IsFit (tree_of program.now) plan.now }
         requires worker { processor < plan.now.workers }
         ensures sound { AreSound result }
@@ -625,8 +620,6 @@ fn own_at<'a>(
     is_some: bool,
     place: u32,
 ) -> (OwnCells, Option<&'a Nest>)
-    requires formed { IsWellFormed (tree_of program.now) }
-    requires cells { cell_count (tree_of program.now) ≤ 1048576 }
     requires few { AreFew (tree_of program.now) (own_loop (tree_of program.now) plan.now place) }
     requires has { is_some ≡ has_own plan.now }
     ensures cells { AreOwnCells (tree_of program.now)

@@ -1,9 +1,6 @@
 // Plans: one that is made, what the checker says of a text, and texts.
 
 ghost use Rattle.std.specs.Prelude.{◌≡◌, ◌≤◌, IfOk, length};
-ghost use Rattle.nest_tree.specs.Limits.{IsWithinLimits};
-ghost use Rattle.nest_tree.specs.View.{tree_of};
-ghost use Rattle.nest_tree.specs.WellFormed.{IsWellFormed};
 
 use nest_tree::Program;
 use plan_checker::check;
@@ -13,10 +10,7 @@ use std::alloc::{AllocError, Global};
 use std::thread::Threads;
 
 /// The text of the plan that is made of a program for two processors.
-pub(crate) fn made(alloc: Global, program: &Program) -> Result<Vec<u8>, AllocError>
-    requires formed { IsWellFormed (tree_of program.now) }
-    requires limits { IsWithinLimits (tree_of program.now) }
-{
+pub(crate) fn made(alloc: Global, program: &Program) -> Result<Vec<u8>, AllocError> {
     let (plan, _reasons) = make(alloc, program, 2)?;
     write_plan(alloc, &plan)
 }
@@ -28,8 +22,6 @@ pub(crate) fn verdict<R: Threads + Sync>(
     program: &Program,
     text: &[u8],
 ) -> Result<String, AllocError>
-    requires formed { IsWellFormed (tree_of program.now) }
-    requires limits { IsWithinLimits (tree_of program.now) }
     requires short { length text.now ≤ MOST_BYTES }
 {
     let plan = match read_plan(alloc, text) {

@@ -13,7 +13,7 @@ returns-in_ok-plan-in-Made-clause-plan g c =
 pub returns-in_ok-plan-in-Made-clause-counts : goal.returns-in_ok-plan-in-Made-clause-counts
 returns-in_ok-plan-in-Made-clause-counts g c =
     let made = c.in_ok-plan-in-Made.ensures in
-    counts_of_fit (tree_of c.args.program.now) c.in_ok-plan-in-Made.plan c.requires.formed made.conditions made.accepted.fits
+    counts_of_fit (tree_of c.args.program.now) c.in_ok-plan-in-Made.plan c.args.program.now.formed made.conditions made.accepted.fits
 
 pub returns-in_ok-plan-in-Made-clause-accepted : goal.returns-in_ok-plan-in-Made-clause-accepted
 returns-in_ok-plan-in-Made-clause-accepted g c = c.in_ok-plan-in-Made.ensures.accepted
@@ -24,7 +24,7 @@ returns-in_ok-make_barrier-in-Barrier-clause-accepted g c = c.in_ok-make_barrier
 pub returns-in_ok-make_barrier-in-Barrier-clause-counts : goal.returns-in_ok-make_barrier-in-Barrier-clause-counts
 returns-in_ok-make_barrier-in-Barrier-clause-counts g c =
     let barriers = c.in_ok-make_barrier-in-Barrier.ensures in
-    counts_of_fit (tree_of c.args.program.now) c.in_ok-make_barrier-in-Barrier.field-0 c.requires.formed barriers.conditions barriers.accepted.fits
+    counts_of_fit (tree_of c.args.program.now) c.in_ok-make_barrier-in-Barrier.field-0 c.args.program.now.formed barriers.conditions barriers.accepted.fits
 
 pub returns-in-Given-clause-workers : goal.returns-in-Given-clause-workers
 returns-in-Given-clause-workers g c = IfOk-weaker c.given_plan.result _ _ (λ plan taken. taken.workers_are) c.given_plan.ensures.taken

@@ -15,16 +15,16 @@ use Rattle.comm_system.proofs.phases.phases.Goals as goal
 pub push_all_phases-requires-clause-good : goal.push_all_phases-requires-clause-good
 push_all_phases-requires-clause-good c =
     let tree = tree_of c.args.program.now in
-    (scope_of tree, [], 1, ap length (sym c.new-outer.ensures), ap (λ xs. are_good_statements (scope_of tree) [] 1 (statements_from xs)) c.deref.ensures.value ∙ (well_formed_parts tree c.requires).statements)
+    (scope_of tree, [], 1, ap length (sym c.new-outer.ensures), ap (λ xs. are_good_statements (scope_of tree) [] 1 (statements_from xs)) c.deref.ensures.value ∙ (well_formed_parts tree c.args.program.now.formed).statements)
 
 pub push_all_phases-requires-clause-steps : goal.push_all_phases-requires-clause-steps
-push_all_phases-requires-clause-steps c = ap (λ xs. have_small_steps (statements_from xs)) c.deref.ensures.value ∙ small_program (tree_of c.args.program.now) c.requires
+push_all_phases-requires-clause-steps c = ap (λ xs. have_small_steps (statements_from xs)) c.deref.ensures.value ∙ small_program (tree_of c.args.program.now) c.args.program.now.formed
 
 pub returns-clause-few : goal.returns-clause-few
 returns-clause-few c =
     let body = statements_from c.deref.result.now in
     let enters = enters_but c.closed.result.now in
-    few_phases (tree_of c.args.program.now) c.args.cut.now.marks c.push_all_phases.new.found.items c.requires
+    few_phases (tree_of c.args.program.now) c.args.cut.now.marks c.push_all_phases.new.found.items c.args.program.now.formed
     (c.in_ok-push_all_phases.ensures
     ∙ ap (λ xs. map phase_seen xs ++ phases_among enters (heads_of (loops_of c.new-outer.result)) body) c.new-found.ensures.items
     ∙ ap (λ xs. phases_among enters (heads_of xs) body) c.new-outer.ensures

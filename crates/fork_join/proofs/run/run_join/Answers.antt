@@ -15,9 +15,9 @@ workers_of-requires-clause-safe g c =
     let plan = c.args.plan.now in
     let r = c.requires in
     let values = c.values_in_styles.ensures in
-    safe_of tree plan (c.laws_in_styles.ensures Arrive tree plan r.formed r.limits r.ranges r.fits r.ordered) r.formed r.limits r.ranges r.fits (λ p n d below at. values.acts Arrive tree plan p n d r.formed r.fits below at)
-    (λ p n cell value below at. values.stored Arrive tree plan p n cell value r.formed r.fits below at) (λ p n cell value below at. values.added Arrive tree plan p n cell value r.formed r.fits below at)
-    (λ p n line below at. values.printed Arrive tree plan p n line r.formed r.fits below at) (λ p n place cell far at. c.own_cells_in_styles.ensures Arrive tree plan p n place cell r.formed r.fits r.ranges far at)
+    safe_of tree plan (c.laws_in_styles.ensures Arrive tree plan c.args.program.now.formed c.args.program.now.limits r.ranges r.fits r.ordered) c.args.program.now.formed c.args.program.now.limits r.ranges r.fits (λ p n d below at. values.acts Arrive tree plan p n d c.args.program.now.formed r.fits below at)
+    (λ p n cell value below at. values.stored Arrive tree plan p n cell value c.args.program.now.formed r.fits below at) (λ p n cell value below at. values.added Arrive tree plan p n cell value c.args.program.now.formed r.fits below at)
+    (λ p n line below at. values.printed Arrive tree plan p n line c.args.program.now.formed r.fits below at) (λ p n place cell far at. c.own_cells_in_styles.ensures Arrive tree plan p n place cell c.args.program.now.formed r.fits r.ranges far at)
 
 pub execute-requires-clause-safe : goal.execute-requires-clause-safe
 execute-requires-clause-safe g c κs within =
@@ -25,9 +25,9 @@ execute-requires-clause-safe g c κs within =
     let plan = c.args.plan.now in
     let r = c.requires in
     let values = c.values_in_styles.ensures in
-    safe_of tree plan (c.laws_in_styles.ensures Arrive tree plan r.formed r.limits r.ranges r.fits r.ordered) r.formed r.limits r.ranges r.fits (λ p n d below at. values.acts Arrive tree plan p n d r.formed r.fits below at)
-    (λ p n cell value below at. values.stored Arrive tree plan p n cell value r.formed r.fits below at) (λ p n cell value below at. values.added Arrive tree plan p n cell value r.formed r.fits below at)
-    (λ p n line below at. values.printed Arrive tree plan p n line r.formed r.fits below at) (λ p n place cell far at. c.own_cells_in_styles.ensures Arrive tree plan p n place cell r.formed r.fits r.ranges far at)
+    safe_of tree plan (c.laws_in_styles.ensures Arrive tree plan c.args.program.now.formed c.args.program.now.limits r.ranges r.fits r.ordered) c.args.program.now.formed c.args.program.now.limits r.ranges r.fits (λ p n d below at. values.acts Arrive tree plan p n d c.args.program.now.formed r.fits below at)
+    (λ p n cell value below at. values.stored Arrive tree plan p n cell value c.args.program.now.formed r.fits below at) (λ p n cell value below at. values.added Arrive tree plan p n cell value c.args.program.now.formed r.fits below at)
+    (λ p n line below at. values.printed Arrive tree plan p n line c.args.program.now.formed r.fits below at) (λ p n place cell far at. c.own_cells_in_styles.ensures Arrive tree plan p n place cell c.args.program.now.formed r.fits r.ranges far at)
 
 pub of-requires-clause-safe : goal.of-requires-clause-safe
 of-requires-clause-safe g c =
@@ -35,9 +35,9 @@ of-requires-clause-safe g c =
     let plan = c.args.plan.now in
     let r = c.requires in
     let values = c.values_in_styles.ensures in
-    safe_of tree plan (c.laws_in_styles.ensures Arrive tree plan r.formed r.limits r.ranges r.fits r.ordered) r.formed r.limits r.ranges r.fits (λ p n d below at. values.acts Arrive tree plan p n d r.formed r.fits below at)
-    (λ p n cell value below at. values.stored Arrive tree plan p n cell value r.formed r.fits below at) (λ p n cell value below at. values.added Arrive tree plan p n cell value r.formed r.fits below at)
-    (λ p n line below at. values.printed Arrive tree plan p n line r.formed r.fits below at) (λ p n place cell far at. c.own_cells_in_styles.ensures Arrive tree plan p n place cell r.formed r.fits r.ranges far at)
+    safe_of tree plan (c.laws_in_styles.ensures Arrive tree plan c.args.program.now.formed c.args.program.now.limits r.ranges r.fits r.ordered) c.args.program.now.formed c.args.program.now.limits r.ranges r.fits (λ p n d below at. values.acts Arrive tree plan p n d c.args.program.now.formed r.fits below at)
+    (λ p n cell value below at. values.stored Arrive tree plan p n cell value c.args.program.now.formed r.fits below at) (λ p n cell value below at. values.added Arrive tree plan p n cell value c.args.program.now.formed r.fits below at)
+    (λ p n line below at. values.printed Arrive tree plan p n line c.args.program.now.formed r.fits below at) (λ p n place cell far at. c.own_cells_in_styles.ensures Arrive tree plan p n place cell c.args.program.now.formed r.fits r.ranges far at)
 
 pub of-requires-clause-count : goal.of-requires-clause-count
 of-requires-clause-count g c =

@@ -14,7 +14,7 @@ use Rattle.turns.specs.TurnsLeft.{turns_place}
 use Rattle.fork_join.specs.Cursors.{cursor_left, cursor_turns}
 use Rattle.fork_join.specs.Joins.{all_deeds}
 use Rattle.fork_join.specs.SeenDeeds.{FindsOwn, phase_deed}
-use Rattle.fork_join.specs.Workers.{IsCounterThere, IsWalking, Runs, turns_behind}
+use Rattle.fork_join.specs.Workers.{IsCounterThere, IsOverlay, IsWalking, Runs, turns_behind}
 use Rattle.fork_join.specs.declared.cursor.Cursor.{Cursor}
 use Rattle.fork_join.proofs.OwnSeeing.{few_here}
 use Rattle.fork_join.proofs.SeenDeeds.{phase_instances}
@@ -110,4 +110,11 @@ returns-in-Some-clause-walks c =
           went.can (went.program ∙ r.executor) (went.output ∙ r.output ∙ sym went.printed ∙ its_printed tree plan n p o.memory.now new kept)
           (omega (arith, fits, out, same_room)) (λ first. let most = r.room first in omega (arith, most, less, out, same_room)));
     } in
+    search rules
+
+pub returns-in-Some-clause-kept : goal.returns-in-Some-clause-kept
+returns-in-Some-clause-kept c =
+    let o = c.args.overlay.now in
+    let new = c.repeat.new.deeds.overlay.now in
+    let got : IsOverlay (tree_of o.program.now) o.plan.now o.behind o.processor o.memory.now new = keeps o new (ap (λ k. k.1.1) c.repeat.ensures.kept) in
     search rules

@@ -1,8 +1,6 @@
 use Rattle.std.proofs.Common.{◌≡◌, ◌<◌, Some, refl, sym, ◌∙◌, ap, subst, lit<, false, rules, replicate}
 use Rattle.std.specs.Prelude.{slice_get}
-use Rattle.nest_tree.specs.Limits.{IsWithinLimits}
 use Rattle.nest_tree.specs.Tree.{Tree}
-use Rattle.nest_tree.specs.WellFormed.{IsWellFormed}
 use Rattle.nest_model.specs.Ranges.{IsInRange}
 use Rattle.sync_plan.specs.Fit.{IsFit}
 use Rattle.sync_plan.specs.Ordered.{IsOrdered}
@@ -20,12 +18,6 @@ use Rattle.house_tests.proofs.word_steps.a_counter_shows_what_was_posted.Goals a
 
 pub vec-requires : goal.vec-requires
 vec-requires g c = search rules
-
-pub new-requires-clause-formed : goal.new-requires-clause-formed
-new-requires-clause-formed g c = subst IsWellFormed (sym c.in_ok-program.ensures) lines.formed
-
-pub new-requires-clause-limits : goal.new-requires-clause-limits
-new-requires-clause-limits g c = subst IsWithinLimits (sym c.in_ok-program.ensures) lines.limits
 
 pub new-requires-clause-ranges : goal.new-requires-clause-ranges
 new-requires-clause-ranges g c = subst IsInRange (sym c.in_ok-program.ensures) lines.ranges

@@ -22,7 +22,7 @@ within : (c : After-own_loop) → are_numbers (loops_of (tree_of c.args.program.
 within c =
     let n = loops_of (tree_of c.args.program.now).items in
     ap (are_numbers n) (sym (loops c (loops_round c.args.phase.now)))
-    ∙ allowed_within (tree_of c.args.program.now) c.args.cut.now.marks (c.args.number - 1) (record { what = statement_of c.args.phase.now.item.now; around = loops_round c.args.phase.now }) c.requires.formed c.requires.phase
+    ∙ allowed_within (tree_of c.args.program.now) c.args.cut.now.marks (c.args.number - 1) (record { what = statement_of c.args.phase.now.item.now; around = loops_round c.args.phase.now }) c.args.program.now.formed c.requires.phase
 
 scope : After-own_loop → Scope
 scope c = record { program = c.args.program; phase = c.args.phase; own = c.own_loop.result; workers = c.args.workers }
@@ -32,14 +32,14 @@ found_anchor-requires-clause-own c =
     let a = goal.at.found_anchor-requires-clause-own c in
     own_numbered (loops_of (tree_of c.args.program.now).items) c.own_loop.result (loops_round c.args.phase.now) (within a.After-own_loop)
 
-pub placed-requires-clause-given : goal.placed-requires-clause-given
+pub placed-requires : goal.placed-requires
 unfolding scope
-placed-requires-clause-given c =
-    let a = (goal.at.placed-requires-clause-given c).After-own_loop in
+placed-requires c =
+    let a = (goal.at.placed-requires c).After-own_loop in
     let what = statement_of c.args.phase.now.item.now in
     let found = sym (found_is (scope a) c.args.cut.now.marks c.args.number what (loops a [])) ∙ sym c.in_ok-anchor.ensures ∙ c.in-Some.is in
     let good = sought_good (tree_of c.args.program.now) c.args.cut.now.marks c.args.workers c.args.number (loops_at (scope a)) what c.in-Some.anchor found in
-    good_given (loops_of (tree_of c.args.program.now).items) (constants_at (scope a)) (loops_at (scope a)) c.in-Some.anchor (within a) good
+    record { given = good_given (loops_of (tree_of c.args.program.now).items) (constants_at (scope a)) (loops_at (scope a)) c.in-Some.anchor (within a) good }
 
 pub returns-in-Some : goal.returns-in-Some
 unfolding scope

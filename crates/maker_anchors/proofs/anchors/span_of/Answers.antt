@@ -36,7 +36,7 @@ unreachable-requires c =
     let tree = tree_of c.args.program.now in
     let p = c.in-Err.ends in
     let at : misplaced tree c.args.cut.now.marks 1 c.args.phase (probe c.args.number) ≡ Some p = ap (λ (f : Form). misplaced tree c.args.cut.now.marks 1 c.args.phase (record { form = f; dist = Block 0 })) (sym c.in_ok-loop_value.ensures) ∙ sym c.in-Err.ensures in
-    let values = placed_values tree c.args.cut.now.marks 1 c.args.phase c.args.number p c.requires.limits at in
+    let values = placed_values tree c.args.cut.now.marks 1 c.args.phase c.args.number p c.args.program.now.limits at in
     let low : to_z w128 (of_z w128 p.low) ≡ p.low = omega (arith, ints) in
     let high : to_z w128 (of_z w128 p.high) ≡ p.high = omega (arith, ints) in
     let found = c.in-None.ensures.near (ap is_value low ∙ values.low) (ap is_value high ∙ values.high) in

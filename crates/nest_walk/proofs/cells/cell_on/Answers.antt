@@ -17,12 +17,12 @@ use Rattle.nest_walk.proofs.cells.cell_on.Goals as goal
 
 pub place_on-place-requires-clause-good : goal.place_on-place-requires-clause-good
 place_on-place-requires-clause-good c =
-    let v = declared-numbered c.args.program.now c.args.access.now.variable c.index.result.now c.requires.formed c.requires.there.low c.requires.there.high c.index.ensures in
-    rw c.deref.ensures.value (ap (list_all is_good_dimension) (sym v.bounds) ∙ bounds-good (tree_of c.args.program.now) c.args.access.now.variable c.requires.formed)
+    let v = declared-numbered c.args.program.now c.args.access.now.variable c.index.result.now c.args.program.now.formed c.requires.there.low c.requires.there.high c.index.ensures in
+    rw c.deref.ensures.value (ap (list_all is_good_dimension) (sym v.bounds) ∙ bounds-good (tree_of c.args.program.now) c.args.access.now.variable c.args.program.now.formed)
 
 pub place_on-place-requires-clause-as_many : goal.place_on-place-requires-clause-as_many
 place_on-place-requires-clause-as_many c =
-    let v = declared-numbered c.args.program.now c.args.access.now.variable c.index.result.now c.requires.formed c.requires.there.low c.requires.there.high c.index.ensures in
+    let v = declared-numbered c.args.program.now c.args.access.now.variable c.index.result.now c.args.program.now.formed c.requires.there.low c.requires.there.high c.index.ensures in
     ap (λ (fs : List Form). length fs) c.as_slice.ensures ∙ c.requires.there.as_many ∙ ap (λ (bs : List (ℤ × ℤ)). length bs) (v.bounds ∙ sym c.deref.ensures.value)
 
 pub returns : goal.returns
@@ -30,7 +30,7 @@ returns c =
     let tree = tree_of c.args.program.now in
     let a = c.args.access.now in
     let rounds = rounds_of c.args.path.now in
-    let v = declared-numbered c.args.program.now a.variable c.index.result.now c.requires.formed c.requires.there.low c.requires.there.high c.index.ensures in
+    let v = declared-numbered c.args.program.now a.variable c.index.result.now c.args.program.now.formed c.requires.there.low c.requires.there.high c.index.ensures in
     let f1 : FitsSigned w64 c.from-first.result = search rules in
     let f2 : FitsSigned w64 c.place_on-place.result = search rules in
     let f3 : FitsSigned w64 c.with_product.result = search rules in

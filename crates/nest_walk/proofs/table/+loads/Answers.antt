@@ -18,7 +18,7 @@ pub push_all_loads-push_loads-requires : goal.push_all_loads-push_loads-requires
 push_all_loads-push_loads-requires t c =
     let scope = scope_of (tree_of c.args.program.now) in
     let lt : c.loop-argument.argument-index < length c.args.arguments.now = omega arith in
-    (search (rules, the_lemmas), (c.requires.formed, (c.requires.limits, good_argument scope (numbers_of (rounds_of c.args.path.now)) c.args.arguments.now c.loop-argument.argument-index c.argument-item.result lt c.argument-item.is c.requires.good)))
+    (search (rules, the_lemmas), good_argument scope (numbers_of (rounds_of c.args.path.now)) c.args.arguments.now c.loop-argument.argument-index c.argument-item.result lt c.argument-item.is c.requires.good)
 
 pub push_all_loads-loop-argument-init : goal.push_all_loads-loop-argument-init
 push_all_loads-loop-argument-init t c = grew-none _ _
@@ -42,7 +42,7 @@ push_loads-push_all_loads-requires t c =
     let around = numbers_of (rounds_of c.args.path.now) in
     let e = ap expression_of c.in-Min.is ∙ expression_of-Min c.in-Min.arguments in
     let good = least_of-good scope around (expressions_from c.in-Min.arguments.items) (sym (ap (is_good_expression scope around) e) ∙ c.requires.good) in
-    (search (rules, the_lemmas), (c.requires.formed, (c.requires.limits, ap (λ xs. are_good_expressions scope around (expressions_from xs)) c.deref.ensures.value ∙ good)))
+    (search (rules, the_lemmas), ap (λ xs. are_good_expressions scope around (expressions_from xs)) c.deref.ensures.value ∙ good)
 
 pub push_loads-push_all_loads-requires-in-Max : goal.push_loads-push_all_loads-requires-in-Max
 push_loads-push_all_loads-requires-in-Max t c =
@@ -50,7 +50,7 @@ push_loads-push_all_loads-requires-in-Max t c =
     let around = numbers_of (rounds_of c.args.path.now) in
     let e = ap expression_of c.in-Max.is ∙ expression_of-Max c.in-Max.arguments in
     let good = greatest_of-good scope around (expressions_from c.in-Max.arguments.items) (sym (ap (is_good_expression scope around) e) ∙ c.requires.good) in
-    (search (rules, the_lemmas), (c.requires.formed, (c.requires.limits, ap (λ xs. are_good_expressions scope around (expressions_from xs)) c.deref-in-Max.ensures.value ∙ good)))
+    (search (rules, the_lemmas), ap (λ xs. are_good_expressions scope around (expressions_from xs)) c.deref-in-Max.ensures.value ∙ good)
 
 pub push_loads-returns-in-Min : goal.push_loads-returns-in-Min
 push_loads-returns-in-Min t c =

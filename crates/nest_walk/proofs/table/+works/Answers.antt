@@ -19,7 +19,7 @@ pub push_works-push_item_works-requires : goal.push_works-push_item_works-requir
 push_works-push_item_works-requires t c =
     let scope = scope_of (tree_of c.args.program.now) in
     let around = numbers_of (rounds_of c.args.path.now) in
-    (search (rules, the_lemmas), (c.requires.formed, (c.requires.limits, good_among scope around c.args.items.now c.loop-item.item-index c.item-item.result c.requires.good.0 c.loop-item-test.true c.item-item.is c.requires.good.1)))
+    (search (rules, the_lemmas), good_among scope around c.args.items.now c.loop-item.item-index c.item-item.result c.requires.good.0 c.loop-item-test.true c.item-item.is c.requires.good.1)
 
 pub push_works-loop-item-preserved : goal.push_works-loop-item-preserved
 push_works-loop-item-preserved t c =
@@ -38,7 +38,7 @@ push_item_works-push_works-requires t c =
     let parts = good_loop scope around first (head_of nest) body (sym (ap (is_good_statement scope around first) same) ∙ c.requires.good.1) in
     let inside : nest.number ∷ around ≡ numbers_of (rounds_of c.push.new.self) = ap numbers_of (sym c.push.ensures) in
     let good = ap (λ (ns : List ℕ). are_good_statements scope ns (first + 1) body) (sym inside) ∙ parts.inside in
-    (search (rules, the_lemmas), (c.requires.formed, (c.requires.limits, (first + 1, ap (λ xs. are_good_statements scope (numbers_of (rounds_of c.push.new.self)) (first + 1) (statements_from xs)) c.deref.ensures.value ∙ good))))
+    (search (rules, the_lemmas), (first + 1, ap (λ xs. are_good_statements scope (numbers_of (rounds_of c.push.new.self)) (first + 1) (statements_from xs)) c.deref.ensures.value ∙ good))
 
 pub push_item_works-returns-in-Loop : goal.push_item_works-returns-in-Loop
 push_item_works-returns-in-Loop t c =

@@ -11,9 +11,11 @@ use Rattle.nest_walk.proofs.Grown.{grew-both, grew-from_none}
 use Rattle.nest_walk.proofs.TableParts.{good_item, items_taken}
 use Rattle.nest_walk.proofs.table.printed_cells.Goals as goal
 
-pub push_item_cells-requires-clause-good : goal.push_item_cells-requires-clause-good
-push_item_cells-requires-clause-good c =
-    good_item (scope_of (tree_of c.args.program.now)) (numbers_of (rounds_of c.args.path.now)) c.args.items.now c.loop-item.item-index c.item-item.result c.loop-item-test.true c.item-item.is c.requires.good
+pub push_item_cells-requires : goal.push_item_cells-requires
+push_item_cells-requires c =
+    record {
+      good = good_item (scope_of (tree_of c.args.program.now)) (numbers_of (rounds_of c.args.path.now)) c.args.items.now c.loop-item.item-index c.item-item.result c.loop-item-test.true c.item-item.is c.requires.good;
+    }
 
 pub loop-item-preserved : goal.loop-item-preserved
 loop-item-preserved c =

@@ -8,16 +8,16 @@ use Rattle.nest_walk.proofs.table.whole_cells.Goals as goal
 
 pub element_count-count-requires : goal.element_count-count-requires
 element_count-count-requires c =
-    (declared-numbered c.args.program.now c.args.variable c.index.result.now c.requires.formed c.requires.low c.requires.high c.index.ensures).good
+    (declared-numbered c.args.program.now c.args.variable c.index.result.now c.args.program.now.formed c.requires.low c.requires.high c.index.ensures).good
 
 pub overflow_cast-result : goal.overflow_cast-result
 overflow_cast-result c =
-    let v = declared-numbered c.args.program.now c.args.variable c.index.result.now c.requires.formed c.requires.low c.requires.high c.index.ensures in
-    omega (arith, v.within, few_cells (tree_of c.args.program.now) c.requires.limits, c.element_count-count.ensures.count)
+    let v = declared-numbered c.args.program.now c.args.variable c.index.result.now c.args.program.now.formed c.requires.low c.requires.high c.index.ensures in
+    omega (arith, v.within, few_cells (tree_of c.args.program.now) c.args.program.now.limits, c.element_count-count.ensures.count)
 
 pub returns : goal.returns
 returns c =
-    let v = declared-numbered c.args.program.now c.args.variable c.index.result.now c.requires.formed c.requires.low c.requires.high c.index.ensures in
+    let v = declared-numbered c.args.program.now c.args.variable c.index.result.now c.args.program.now.formed c.requires.low c.requires.high c.index.ensures in
     let first = c.first_cell-first.ensures ∙ ap (λ (t : Tree). first_cell t c.args.variable) c.layout.ensures in
     let count = c.element_count-count.ensures.count ∙ ap element_count (sym v.bounds) in
     λ around. (first, count, omega (arith, first, c.element_count-count.ensures.count, v.within))

@@ -13,10 +13,10 @@ use Rattle.obligation_numbers.proofs.phases.phases_weight.Goals as goal
 pub add_all-requires-clause-good : goal.add_all-requires-clause-good
 add_all-requires-clause-good g c =
     let tree = tree_of c.args.program.now in
-    (scope_of tree, [], 1, ap length (sym c.new.ensures), ap (λ xs. are_good_statements (scope_of tree) [] 1 (statements_from xs)) c.deref.ensures.value ∙ (well_formed_parts tree c.requires).statements)
+    (scope_of tree, [], 1, ap length (sym c.new.ensures), ap (λ xs. are_good_statements (scope_of tree) [] 1 (statements_from xs)) c.deref.ensures.value ∙ (well_formed_parts tree c.args.program.now.formed).statements)
 
 pub add_all-requires-clause-few : goal.add_all-requires-clause-few
-add_all-requires-clause-few g c = omega (arith, (well_formed_parts (tree_of c.args.program.now) c.requires).few, ap (λ xs. statement_count (statements_from xs)) c.deref.ensures.value)
+add_all-requires-clause-few g c = omega (arith, (well_formed_parts (tree_of c.args.program.now) c.args.program.now.formed).few, ap (λ xs. statement_count (statements_from xs)) c.deref.ensures.value)
 
 pub returns : goal.returns
 returns g c =

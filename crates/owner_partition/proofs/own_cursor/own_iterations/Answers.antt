@@ -17,7 +17,7 @@ use Rattle.owner_partition.proofs.own_cursor.own_iterations.Goals.{In-Some}
 
 pub returns-in_default-clause-own : goal.returns-in_default-clause-own
 returns-in_default-clause-own c v is =
-    let found = (phase_stands (tree_of c.args.program.now) c.args.cut.now.marks v c.args.phase.now is c.requires.formed c.requires.limits).site in
+    let found = (phase_stands (tree_of c.args.program.now) c.args.cut.now.marks v c.args.phase.now is c.args.program.now.formed c.args.program.now.limits).site in
     let clash : ◌≡◌ {A = Option Site} None (Some (record { what = v.what; first = v.first; rounds = is.rounds })) = sym c.in_default.ensures ∙ found in
     absurd (cc)
 
@@ -27,13 +27,13 @@ found_at : (c : In-Some) (v : Visit) (is : IsPhaseOf (tree_of c.args.program.now
 found_at c v is =
     is_found (tree_of c.args.program.now) v is.rounds (record { item = c.in-Some.site.item; place = c.args.phase.now.place; first = c.in-Some.site.first }) (rounds_of c.site_of-site.new.path)
     (sym c.in-Some.ensures
-    ∙ (phase_stands (tree_of c.args.program.now) c.args.cut.now.marks v c.args.phase.now is c.requires.formed c.requires.limits).site)
+    ∙ (phase_stands (tree_of c.args.program.now) c.args.cut.now.marks v c.args.phase.now is c.args.program.now.formed c.args.program.now.limits).site)
 
 pub restart_own-requires-clause-reached : goal.restart_own-requires-clause-reached
 restart_own-requires-clause-reached c =
     let (v, is) = c.requires.phase in
     subst (λ t. IsTrue (is_reached t (rounds_of c.site_of-site.new.path) (record { item = c.in-Some.site.item; place = c.args.phase.now.place; first = c.in-Some.site.first }))) (sym c.none-stops.ensures.program)
-    (found_reached (tree_of c.args.program.now) c.args.cut.now.marks v c.args.phase.now is _ _ c.requires.formed c.requires.limits (found_at (goal.at.restart_own-requires-clause-reached c).In-Some v is))
+    (found_reached (tree_of c.args.program.now) c.args.cut.now.marks v c.args.phase.now is _ _ c.args.program.now.formed c.args.program.now.limits (found_at (goal.at.restart_own-requires-clause-reached c).In-Some v is))
 
 pub restart_own-requires-clause-text : goal.restart_own-requires-clause-text
 restart_own-requires-clause-text c =

@@ -10,20 +10,20 @@ use Rattle.owner_partition.proofs.placement.check_from.Goals as goal
 
 pub seek-requires-clause-given : goal.seek-requires-clause-given
 seek-requires-clause-given c =
-    read-given c.args.program.now c.args.ends.now c.deref-2.result.now c.deref.result.now c.requires.ends c.deref-2.ensures.value c.deref.ensures.value c.requires.formed
+    read-given c.args.program.now c.args.ends.now c.deref-2.result.now c.deref.result.now c.requires.ends c.deref-2.ensures.value c.deref.ensures.value c.args.program.now.formed
 
 pub seek-requires-clause-narrow : goal.seek-requires-clause-narrow
 seek-requires-clause-narrow c =
-    read-wide c.args.program.now c.args.ends.now c.deref-2.result.now c.deref.result.now c.requires.ends c.deref-2.ensures.value c.deref.ensures.value ∙ (kept (tree_of c.args.program.now) c.requires.limits).forms
+    read-wide c.args.program.now c.args.ends.now c.deref-2.result.now c.deref.result.now c.requires.ends c.deref-2.ensures.value c.deref.ensures.value ∙ (kept (tree_of c.args.program.now) c.args.program.now.limits).forms
 
 pub seek-requires-clause-counted : goal.seek-requires-clause-counted
 seek-requires-clause-counted c =
     let enters = enters_but c.closed.result.now in
-    omega (arith, few_phases (tree_of c.args.program.now) enters c.requires.formed, ap (λ xs. stops_of enters (statements_from xs)) c.deref.ensures.value)
+    omega (arith, few_phases (tree_of c.args.program.now) enters c.args.program.now.formed, ap (λ xs. stops_of enters (statements_from xs)) c.deref.ensures.value)
 
 pub check_interval-requires : goal.check_interval-requires
 check_interval-requires c =
-    form_given c.args.program.now c.args.anchor.now.form c.seek.new.ends c.deref-then-seek.result.now c.requires.formed (c.seek.ensures.long ∙ ap length c.requires.ends) c.deref-then-seek.ensures.value c.requires.given
+    form_given c.args.program.now c.args.anchor.now.form c.seek.new.ends c.deref-then-seek.result.now c.args.program.now.formed (c.seek.ensures.long ∙ ap length c.requires.ends) c.deref-then-seek.ensures.value c.requires.given
 
 pub returns-then-seek : goal.returns-then-seek
 returns-then-seek c =

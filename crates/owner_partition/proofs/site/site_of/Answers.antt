@@ -18,18 +18,18 @@ site_among-requires-clause-good c =
       scope_of tree,
       1,
       ap (λ rs. are_good_statements (scope_of tree) (numbers_of rs) 1 (statements_from c.deref.result.now)) c.requires.bare
-          ∙ ap (λ xs. are_good_statements (scope_of tree) [] 1 (statements_from xs)) c.deref.ensures.value ∙ (well_formed_parts tree c.requires.formed).statements,
+          ∙ ap (λ xs. are_good_statements (scope_of tree) [] 1 (statements_from xs)) c.deref.ensures.value ∙ (well_formed_parts tree c.args.program.now.formed).statements,
     )
 
 pub site_among-requires-clause-stops : goal.site_among-requires-clause-stops
 site_among-requires-clause-stops c =
     let enters = enters_but c.closed.result.now in
-    omega (arith, few_phases (tree_of c.args.program.now) enters c.requires.formed, ap (λ xs. stops_of enters (statements_from xs)) c.deref.ensures.value)
+    omega (arith, few_phases (tree_of c.args.program.now) enters c.args.program.now.formed, ap (λ xs. stops_of enters (statements_from xs)) c.deref.ensures.value)
 
 pub site_among-requires-clause-works : goal.site_among-requires-clause-works
 site_among-requires-clause-works c =
     let tree = tree_of c.args.program.now in
-    omega (arith, few_phases tree every c.requires.formed, works_of-all tree.items, ap (λ xs. works_of (statements_from xs)) c.deref.ensures.value)
+    omega (arith, few_phases tree every c.args.program.now.formed, works_of-all tree.items, ap (λ xs. works_of (statements_from xs)) c.deref.ensures.value)
 
 pub returns : goal.returns
 returns c =

@@ -8,7 +8,7 @@ use Rattle.rayon.proofs.ListFacts.{IfOk-then}
 use Rattle.rayon.proofs.ToStd.{slice-AllZip}
 use Rattle.nest_tree.specs.Tree.{Tree}
 use Rattle.nest_tree.specs.View.{tree_of}
-use Rattle.nest_tree.specs.declared.tree.Program.{Program}
+use Rattle.nest_tree.specs.declared.program.Program.{Program}
 use Rattle.sync_plan.specs.declared.plan.Plan.{Plan}
 use Rattle.sync_plan.proofs.plan.Plan.TheSendSync as plan
 use Rattle.comm_system.specs.GroupViews.{group_seen}

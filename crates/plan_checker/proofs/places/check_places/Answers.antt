@@ -16,7 +16,7 @@ check_phases-requires-clause-few c = let all = ap (λ (xs : List Anchor). length
 pub check_phases-requires-clause-given : goal.check_phases-requires-clause-given
 check_phases-requires-clause-given c =
     let tree = tree_of c.args.program.now in
-    subst (λ xs. IsTrue (are_given_anchors (loops_of tree.items) (length tree.params) xs)) (sym c.as_slice.ensures) (shape_parts tree c.args.plan.now c.requires.formed c.requires.shape).given_anchors
+    subst (λ xs. IsTrue (are_given_anchors (loops_of tree.items) (length tree.params) xs)) (sym c.as_slice.ensures) (shape_parts tree c.args.plan.now c.args.program.now.formed c.requires.shape).given_anchors
 
 pub check_kinds-requires-clause-few : goal.check_kinds-requires-clause-few
 check_kinds-requires-clause-few c = let all = ap (λ (xs : List Kind). length xs) c.as_slice-2.ensures in omega (arith, all, c.requires.kinds)
@@ -24,7 +24,7 @@ check_kinds-requires-clause-few c = let all = ap (λ (xs : List Kind). length xs
 pub check_kinds-requires-clause-given : goal.check_kinds-requires-clause-given
 check_kinds-requires-clause-given c =
     let tree = tree_of c.args.program.now in
-    subst (λ xs. IsTrue (are_given_kinds (loops_of tree.items) (length tree.params) xs)) (sym c.as_slice-2.ensures) (shape_parts tree c.args.plan.now c.requires.formed c.requires.shape).given_kinds
+    subst (λ xs. IsTrue (are_given_kinds (loops_of tree.items) (length tree.params) xs)) (sym c.as_slice-2.ensures) (shape_parts tree c.args.plan.now c.args.program.now.formed c.requires.shape).given_kinds
 
 pub returns-in_err-check_phases : goal.returns-in_err-check_phases
 returns-in_err-check_phases c =

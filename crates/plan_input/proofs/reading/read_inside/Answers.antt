@@ -28,7 +28,7 @@ returns-in-Ok-clause-program c =
     let lists = subst (λ (lines : List Line). Lists bytes (map entry_of lines) rest) (sym c.deref.ensures.value) c.in_ok-lines.ensures.lists in
     record {
       reads = reads_program bytes (map entry_of c.deref.result.now) rest (map setting_of c.args.settings.now) (tree_of c.in_ok-program.program) lists c.in_ok-program.ensures.program;
-      limits = c.in_ok-program.ensures.limits;
+      limits = c.in_ok-program.program.limits;
     }
 
 pub returns-in-Ok-clause-clear : goal.returns-in-Ok-clause-clear
@@ -39,7 +39,7 @@ returns-in-Ok-clause-none c =
     let bytes = c.args.bytes.now in
     let rest = c.in_ok-lines.rest in
     let lists = subst (λ (lines : List Line). Lists bytes (map entry_of lines) rest) (sym c.deref.ensures.value) c.in_ok-lines.ensures.lists in
-    none_first c.args.alone bytes (map setting_of c.args.settings.now) (map entry_of c.deref.result.now) rest (tree_of c.in_ok-program.program) c.in_ok-lines.ensures.none lists c.in_ok-program.ensures.program c.in_ok-program.ensures.limits c.in-Ok.ensures.first
+    none_first c.args.alone bytes (map setting_of c.args.settings.now) (map entry_of c.deref.result.now) rest (tree_of c.in_ok-program.program) c.in_ok-lines.ensures.none lists c.in_ok-program.ensures.program c.in_ok-program.program.limits c.in-Ok.ensures.first
 
 pub returns-in-Ok-clause-rest : goal.returns-in-Ok-clause-rest
 returns-in-Ok-clause-rest c = c.in_ok-lines.ensures.lists.behind
@@ -50,4 +50,4 @@ returns-clause-refused c =
     let rest = c.in_ok-lines.rest in
     let lists = subst (λ (lines : List Line). Lists bytes (map entry_of lines) rest) (sym c.deref.ensures.value) c.in_ok-lines.ensures.lists in
     λ memoryful.
-    of_range c.args.alone bytes (map setting_of c.args.settings.now) (map entry_of c.deref.result.now) rest (tree_of c.in_ok-program.program) c.in-Err.outside c.in_ok-lines.ensures.none lists c.in_ok-program.ensures.program c.in_ok-program.ensures.limits c.in-Err.ensures.first
+    of_range c.args.alone bytes (map setting_of c.args.settings.now) (map entry_of c.deref.result.now) rest (tree_of c.in_ok-program.program) c.in-Err.outside c.in_ok-lines.ensures.none lists c.in_ok-program.ensures.program c.in_ok-program.program.limits c.in-Err.ensures.first

@@ -9,14 +9,14 @@ use Rattle.plan_maker.proofs.AloneAsked.{paths_judged}
 use Rattle.plan_maker.proofs.TriedCuts.{alone_tried}
 use Rattle.plan_maker.proofs.loops.is_sure.Goals as goal
 
-pub serial-requires-clause-tried : goal.serial-requires-clause-tried
-serial-requires-clause-tried c =
+pub serial-requires : goal.serial-requires
+serial-requires c =
     let tree = tree_of c.args.program.now in
     let n = c.args.number in
     let v = c.args.scalar in
     let own = c.from_vec-own.ensures ∙ c.in_ok-push.ensures.items ∙ ap (λ xs. xs ++ v ∷ []) c.new-own.ensures.items in
     let is = c.in_ok-cut.ensures ∙ ap (cut_alone tree n Private) own in
-    alone_tried tree n Private (v ∷ []) c.in_ok-cut.cut c.requires.formed c.requires.some c.requires.made is
+    record { tried = alone_tried tree n Private (v ∷ []) c.in_ok-cut.cut c.args.program.now.formed c.requires.some c.requires.made is }
 
 pub returns-in-Refuted : goal.returns-in-Refuted
 returns-in-Refuted c =

@@ -6,7 +6,7 @@ use Rattle.plan_maker.proofs.Verdicts.{verdict_more}
 use Rattle.plan_maker.proofs.loops.judge_loops.Goals as goal
 
 pub loop_count-place-end-requires : goal.loop_count-place-end-requires
-loop_count-place-end-requires c = omega (arith, loops-few (tree_of c.args.program.now) c.requires.formed)
+loop_count-place-end-requires c = omega (arith, loops-few (tree_of c.args.program.now) c.args.program.now.formed)
 
 pub loop-place-preserved : goal.loop-place-preserved
 loop-place-preserved c =

@@ -29,7 +29,7 @@ pub judge_try-requires-clause-some : goal.judge_try-requires-clause-some
 judge_try-requires-clause-some c =
     let tree = tree_of c.args.program.now in
     let nest = c.args.nest.now in
-    (found_within (scope_of tree) [] 1 nest.number tree.items (nest_body nest) (well_formed_parts tree c.requires.formed).statements c.requires.body).0
+    (found_within (scope_of tree) [] 1 nest.number tree.items (nest_body nest) (well_formed_parts tree c.args.program.now.formed).statements c.requires.body).0
 
 pub judge_try-requires-clause-made : goal.judge_try-requires-clause-made
 judge_try-requires-clause-made c =
@@ -38,7 +38,7 @@ judge_try-requires-clause-made c =
     let t = c.args.tried in
     let sure = c.in_ok-sure.sure.items in
     let some = ap (λ (xs : List ℕ). length xs == 0) (sym c.as_slice.ensures) ∙ sym c.is_empty.ensures ∙ c.if-is_empty.false in
-    let made = sure_made tree nest.number t sure (nest_body nest) c.requires.formed c.requires.body c.requires.made c.in_ok-sure.ensures (none_without t c.in_ok-all.all sure (nest_body nest) c.in_ok-all.ensures some) in
+    let made = sure_made tree nest.number t sure (nest_body nest) c.args.program.now.formed c.requires.body c.requires.made c.in_ok-sure.ensures (none_without t c.in_ok-all.all sure (nest_body nest) c.in_ok-all.ensures some) in
     subst (λ vs. IsMadeOf t vs (body_of tree nest.number)) (sym c.from_vec-sure.ensures) made
 
 pub returns-then-is_doall : goal.returns-then-is_doall

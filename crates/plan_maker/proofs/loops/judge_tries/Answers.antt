@@ -20,7 +20,7 @@ pub judge_try-requires-clause-some : goal.judge_try-requires-clause-some
 judge_try-requires-clause-some c =
     let tree = tree_of c.args.program.now in
     let nest = c.args.nest.now in
-    (found_within (scope_of tree) [] 1 nest.number tree.items (nest_body nest) (well_formed_parts tree c.requires.formed).statements c.requires.body).0
+    (found_within (scope_of tree) [] 1 nest.number tree.items (nest_body nest) (well_formed_parts tree c.args.program.now.formed).statements c.requires.body).0
 
 pub judge_try-requires-clause-made : goal.judge_try-requires-clause-made
 judge_try-requires-clause-made c =
@@ -29,7 +29,7 @@ judge_try-requires-clause-made c =
     let ts = c.as_slice-tried-items.result.now in
     let k = c.loop-tried.tried-index in
     let t = slice_index_or ts k Doall in
-    let made = try_made tree nest.number (nest_body nest) ts k t c.requires.formed c.requires.body (c.as_slice-tried-items.ensures.value ∙ c.in_ok-tries.ensures) (slice_get-get_or ts k _ c.loop-tried-test.true) c.requires.silent in
+    let made = try_made tree nest.number (nest_body nest) ts k t c.args.program.now.formed c.requires.body (c.as_slice-tried-items.ensures.value ∙ c.in_ok-tries.ensures) (slice_get-get_or ts k _ c.loop-tried-test.true) c.requires.silent in
     subst (IsMadeOf t c.in_ok-privates.privates) (sym (body_there tree nest.number (nest_body nest) c.requires.body)) (subst (λ vs. IsMadeOf t vs (nest_body nest)) (sym c.in_ok-privates.ensures) made)
 
 pub judge_sure-requires-clause-made : goal.judge_sure-requires-clause-made
@@ -39,7 +39,7 @@ judge_sure-requires-clause-made c =
     let ts = c.as_slice-tried-items.result.now in
     let k = c.loop-tried.tried-index in
     let t = slice_index_or ts k Doall in
-    try_made tree nest.number (nest_body nest) ts k t c.requires.formed c.requires.body (c.as_slice-tried-items.ensures.value ∙ c.in_ok-tries.ensures) (slice_get-get_or ts k _ c.loop-tried-test.true) c.requires.silent
+    try_made tree nest.number (nest_body nest) ts k t c.args.program.now.formed c.requires.body (c.as_slice-tried-items.ensures.value ∙ c.in_ok-tries.ensures) (slice_get-get_or ts k _ c.loop-tried-test.true) c.requires.silent
 
 pub returns-in-Refuted : goal.returns-in-Refuted
 returns-in-Refuted c =

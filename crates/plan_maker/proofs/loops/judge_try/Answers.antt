@@ -9,12 +9,12 @@ use Rattle.plan_maker.proofs.Questions.{cause-behind, cause-front}
 use Rattle.plan_maker.proofs.TriedCuts.{alone_tried}
 use Rattle.plan_maker.proofs.loops.judge_try.Goals as goal
 
-pub serial-requires-clause-tried : goal.serial-requires-clause-tried
-serial-requires-clause-tried c =
+pub serial-requires : goal.serial-requires
+serial-requires c =
     let tree = tree_of c.args.program.now in
     let n = c.args.number in
     let t = c.args.tried in
-    alone_tried tree n t c.args.privates c.in_ok-cut.cut c.requires.formed c.requires.some c.requires.made (c.in_ok-cut.ensures ∙ ap (cut_alone tree n t) c.in_ok-own.ensures)
+    record { tried = alone_tried tree n t c.args.privates c.in_ok-cut.cut c.args.program.now.formed c.requires.some c.requires.made (c.in_ok-cut.ensures ∙ ap (cut_alone tree n t) c.in_ok-own.ensures) }
 
 pub returns-in-Kept : goal.returns-in-Kept
 returns-in-Kept c =

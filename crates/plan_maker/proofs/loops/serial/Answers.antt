@@ -17,5 +17,5 @@ returns-clause-fits c =
     let text = static_phases tree cut.marks in
     let anchors = c.in_ok-anchors.anchors.items in
     let fine = subst (AreFineAnchors tree cut.marks 1 1 text) (sym (c.in_ok-anchors.ensures ∙ ap (λ n. replicate n first_processor) c.count.ensures)) (first-all tree cut.marks 1 1 text) in
-    let fits = barrier_fits tree cut anchors 1 (cut_fits tree cut c.requires.formed c.requires.tried) fine (omega arith) (omega arith) in
+    let fits = barrier_fits tree cut anchors 1 (cut_fits tree cut c.args.program.now.formed c.requires.tried) fine (omega arith) (omega arith) in
     IfOk-weaker c.all_barrier.result _ (IsFit tree) (λ plan is. subst (IsFit tree) (sym (is ∙ ap (barrier_plan cut anchors 1) c.new.ensures.items)) fits) c.all_barrier.ensures

@@ -19,24 +19,24 @@ pub loop-place-init : goal.loop-place-init
 loop-place-init c =
     let tree = tree_of c.args.program.now in
     let nest = c.args.nest.now in
-    let none = sure_none tree nest.number (nest_body nest) (body_good tree nest.number (nest_body nest) c.requires.formed c.requires.body) in
+    let none = sure_none tree nest.number (nest_body nest) (body_good tree nest.number (nest_body nest) c.args.program.now.formed c.requires.body) in
     subst (AreSureBelow tree nest.number (nest_body nest) 1) (sym c.new-sure.ensures.items) none
 
 pub overflow_cast-scalar : goal.overflow_cast-scalar
 overflow_cast-scalar c =
     let variables = c.args.program.now.variables in
-    omega (arith, variables_few (tree_of c.args.program.now) c.requires.formed c.requires.limits, c.loop-place-test.true, c.len-place-end.ensures, length-map variables.items declaration_of, variables.ok.0)
+    omega (arith, variables_few (tree_of c.args.program.now) c.args.program.now.formed c.args.program.now.limits, c.loop-place-test.true, c.len-place-end.ensures, length-map variables.items declaration_of, variables.ok.0)
 
 pub overflow_add-scalar : goal.overflow_add-scalar
 overflow_add-scalar c =
     let variables = c.args.program.now.variables in
-    omega (arith, variables_few (tree_of c.args.program.now) c.requires.formed c.requires.limits, c.loop-place-test.true, c.len-place-end.ensures, length-map variables.items declaration_of, variables.ok.0)
+    omega (arith, variables_few (tree_of c.args.program.now) c.args.program.now.formed c.args.program.now.limits, c.loop-place-test.true, c.len-place-end.ensures, length-map variables.items declaration_of, variables.ok.0)
 
 pub is_sure-requires-clause-some : goal.is_sure-requires-clause-some
 is_sure-requires-clause-some c =
     let tree = tree_of c.args.program.now in
     let nest = c.args.nest.now in
-    (found_within (scope_of tree) [] 1 nest.number tree.items (nest_body nest) (well_formed_parts tree c.requires.formed).statements c.requires.body).0
+    (found_within (scope_of tree) [] 1 nest.number tree.items (nest_body nest) (well_formed_parts tree c.args.program.now.formed).statements c.requires.body).0
 
 pub is_sure-requires-clause-made : goal.is_sure-requires-clause-made
 is_sure-requires-clause-made c =
@@ -84,4 +84,4 @@ returns c =
     let vs = c.loop-place.sure.items in
     let variables = c.args.program.now.variables in
     let end : c.loop-place.place + 1 ≡ length tree.variables + 1 = omega (arith, c.loop-place-test.false, c.loop-place.auto.place-end, c.len-place-end.ensures, length-map variables.items declaration_of, variables.ok.0) in
-    sure_all tree nest.number (nest_body nest) vs c.requires.formed c.requires.body (subst (λ m. AreSureBelow tree nest.number (nest_body nest) m vs) end c.loop-place.invariant)
+    sure_all tree nest.number (nest_body nest) vs c.args.program.now.formed c.requires.body (subst (λ m. AreSureBelow tree nest.number (nest_body nest) m vs) end c.loop-place.invariant)

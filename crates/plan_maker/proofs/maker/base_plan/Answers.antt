@@ -17,5 +17,5 @@ returns-clause-fits c =
     let text = static_phases tree cut.marks in
     let anchors = c.in_ok-anchors.anchors.items in
     let fine = subst (AreFineAnchors tree cut.marks workers 1 text) (sym c.in_ok-anchors.ensures) (made-all tree cut.marks workers 1 text) in
-    let fits = barrier_fits tree cut anchors workers (cut_fits tree cut c.requires.formed (reasoned_tried tree cut c.requires.formed c.requires.reasoned)) fine c.requires.some c.requires.few in
+    let fits = barrier_fits tree cut anchors workers (cut_fits tree cut c.args.program.now.formed (reasoned_tried tree cut c.args.program.now.formed c.requires.reasoned)) fine c.requires.some c.requires.few in
     IfOk-weaker c.all_barrier.result _ (IsFit tree) (λ plan is. subst (IsFit tree) (sym (is ∙ ap (barrier_plan cut anchors workers) c.new.ensures.items)) fits) c.all_barrier.ensures

@@ -29,4 +29,4 @@ returns c =
     let base = c.in_ok-base.base in
     let w : Weakest = c.in_ok-kinds.field-0 in
     let reasons : Reasons = record { loops = c.in_ok-cut.loops; phases = w.reasons } in
-    made_is tree c.args.workers c.in_ok-cut.cut base w c.with-plan.result reasons c.requires.formed c.in_ok-base.ensures.same c.with-plan.ensures c.in_ok-base.ensures.fits c.in_ok-kinds.ensures c.read_plan.ensures c.in_ok-cut.ensures.reasoned c.in_ok-cut.ensures.loops refl
+    made_is tree c.args.workers c.in_ok-cut.cut base w c.with-plan.result reasons c.args.program.now.formed c.in_ok-base.ensures.same c.with-plan.ensures c.in_ok-base.ensures.fits c.in_ok-kinds.ensures c.read_plan.ensures c.in_ok-cut.ensures.reasoned c.in_ok-cut.ensures.loops refl

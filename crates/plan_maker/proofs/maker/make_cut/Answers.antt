@@ -31,7 +31,7 @@ loop_reasons-requires-clause-barred c =
     let a = (goal.at.loop_reasons-requires-clause-barred c).In_ok-cut in
     let tree = tree_of c.args.program.now in
     let vs = c.in_ok-verdicts.verdicts.items in
-    subst (AreOpenBarred c.as_slice-5.result.now) (sym c.as_slice-6.ensures.value) (open_are_barred tree vs c.as_slice-5.result.now c.requires.formed (c.as_slice-5.ensures ∙ marks-are a))
+    subst (AreOpenBarred c.as_slice-5.result.now) (sym c.as_slice-6.ensures.value) (open_are_barred tree vs c.as_slice-5.result.now c.args.program.now.formed (c.as_slice-5.ensures ∙ marks-are a))
 
 pub returns-clause-reasoned : goal.returns-clause-reasoned
 returns-clause-reasoned c =
@@ -55,7 +55,7 @@ returns-clause-trips c =
     let cut = c.in_ok-cut.cut in
     let certificates = c.in_ok-certificates.certificates.trips.items in
     let here = subst (λ (marks : List Mark). AreRefuted (loops_asked tree dealt owned 1 marks) certificates) c.as_slice-7.ensures (c.in_ok-certificates.ensures.trips tree c.in_ok-verdicts.ensures.verdicts) in
-    subst (λ qs. AreRefuted qs certificates) (sym (trips_laid tree dealt owned cut c.requires.formed (cut-is a))) here
+    subst (λ qs. AreRefuted qs certificates) (sym (trips_laid tree dealt owned cut c.args.program.now.formed (cut-is a))) here
 
 pub returns-clause-paths : goal.returns-clause-paths
 returns-clause-paths c =
@@ -67,4 +67,4 @@ returns-clause-paths c =
     let cut = c.in_ok-cut.cut in
     let certificates = c.in_ok-certificates.certificates.paths.items in
     let here = subst (λ (marks : List Mark). AreRefuted (loops_paths_asked tree dealt owned 1 marks) certificates) c.as_slice-7.ensures (c.in_ok-certificates.ensures.paths tree c.in_ok-verdicts.ensures.verdicts) in
-    subst (λ qs. AreRefuted qs certificates) (sym (paths_laid tree dealt owned cut c.requires.formed (cut-is a))) here
+    subst (λ qs. AreRefuted qs certificates) (sym (paths_laid tree dealt owned cut c.args.program.now.formed (cut-is a))) here

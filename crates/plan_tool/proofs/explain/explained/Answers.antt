@@ -6,10 +6,6 @@ use Rattle.plan_tool.proofs.Sources.{faultless, source_of}
 use Rattle.plan_tool.proofs.Stopped.{untold_lines}
 use Rattle.plan_tool.proofs.explain.explained.Goals as goal
 
-pub write_account-requires-clause-limits : goal.write_account-requires-clause-limits
-write_account-requires-clause-limits g c =
-    (source_of c.args.subject c.args.bytes.now (map setting_of c.args.settings.now) (tree_of c.in_ok-found.found.program) c.in_ok-found.found.account.plan c.in_ok-found.ensures.account.plan).limits
-
 pub write_account-requires-clause-faultless : goal.write_account-requires-clause-faultless
 write_account-requires-clause-faultless g c =
     let settings = map setting_of c.args.settings.now in

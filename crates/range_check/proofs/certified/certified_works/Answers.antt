@@ -9,12 +9,12 @@ use Rattle.range_check.proofs.CertifiedLists.{one_work_more}
 use Rattle.range_check.proofs.Standing.{as_long, good_at, view_at}
 use Rattle.range_check.proofs.certified.certified_works.Goals as goal
 
-pub is_work_certified-requires-clause-seen : goal.is_work_certified-requires-clause-seen
-is_work_certified-requires-clause-seen c =
+pub is_work_certified-requires : goal.is_work_certified-requires
+is_work_certified-requires c =
     let tree = tree_of c.args.program.now in
     let views = subst (AllZip IsView (nested_works tree)) (sym c.deref-nested-items.ensures.value) c.in_ok-works.ensures in
     let v = view_at (nested_works tree) c.deref-nested-items.result.now c.loop-nested.nested-index c.nested-item.result views c.loop-nested-test.true c.nested-item.is in
-    (v.nested, v.view, good_at tree c.requires c.loop-nested.nested-index v.nested v.at)
+    record { seen = (v.nested, v.view, good_at tree c.args.program.now.formed c.loop-nested.nested-index v.nested v.at) }
 
 pub loop-nested-preserved : goal.loop-nested-preserved
 loop-nested-preserved c =

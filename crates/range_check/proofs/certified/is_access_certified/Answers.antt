@@ -9,7 +9,7 @@ use Rattle.range_check.proofs.certified.is_access_certified.Goals as goal
 
 pub overflow_cast-index-end : goal.overflow_cast-index-end
 overflow_cast-index-end c =
-    let few = few_subscripts (tree_of c.args.program.now) c.args.access.now c.requires.formed c.requires.there in
+    let few = few_subscripts (tree_of c.args.program.now) c.args.access.now c.args.program.now.formed c.requires.there in
     let short : length c.as_slice.result.now ≤ 3 = omega (arith, few, ap (λ (fs : List Form). length fs) c.as_slice.ensures) in
     search (rules, short)
 

@@ -24,7 +24,7 @@ check_all_loads-check_loads-requires t c =
     let rest = loads_among (expressions_from (drop (c.loop-argument.argument-index + 1) c.args.arguments.now)) in
     let more = arguments_more c.args.arguments.now c.loop-argument.argument-index e c.loop-argument-test.true c.argument-item.is in
     let sound = sound-append tree around loops here rest (sym (ap (λ x. are_sound_accesses tree around loops (loads_among x)) more) ∙ c.loop-argument.invariant.sound) in
-    (search (rules, the_lemmas), (c.requires.formed, (c.requires.numbered, sound.0)))
+    (search (rules, the_lemmas), (c.requires.numbered, sound.0))
 
 pub check_all_loads-returns-in_err-check_loads : goal.check_all_loads-returns-in_err-check_loads
 check_all_loads-returns-in_err-check_loads t c =
@@ -63,7 +63,7 @@ check_loads-check_all_loads-requires t c =
     let loops = loops_in tree (rounds_of c.args.path.now) in
     let sounds = λ (xs : List Access). are_sound_accesses tree around loops xs in
     let e = ap (λ e. sounds (loads_in (expression_of e))) c.in-Min.is ∙ ap (λ e. sounds (loads_in e)) (expression_of-Min c.in-Min.arguments) in
-    (search (rules, the_lemmas), (c.requires.formed, (c.requires.numbered, ap (λ xs. sounds (loads_among (expressions_from xs))) c.deref.ensures.value ∙ sym e ∙ c.requires.sound)))
+    (search (rules, the_lemmas), (c.requires.numbered, ap (λ xs. sounds (loads_among (expressions_from xs))) c.deref.ensures.value ∙ sym e ∙ c.requires.sound))
 
 pub check_loads-check_all_loads-requires-in-Max : goal.check_loads-check_all_loads-requires-in-Max
 check_loads-check_all_loads-requires-in-Max t c =
@@ -72,7 +72,7 @@ check_loads-check_all_loads-requires-in-Max t c =
     let loops = loops_in tree (rounds_of c.args.path.now) in
     let sounds = λ (xs : List Access). are_sound_accesses tree around loops xs in
     let e = ap (λ e. sounds (loads_in (expression_of e))) c.in-Max.is ∙ ap (λ e. sounds (loads_in e)) (expression_of-Max c.in-Max.arguments) in
-    (search (rules, the_lemmas), (c.requires.formed, (c.requires.numbered, ap (λ xs. sounds (loads_among (expressions_from xs))) c.deref-in-Max.ensures.value ∙ sym e ∙ c.requires.sound)))
+    (search (rules, the_lemmas), (c.requires.numbered, ap (λ xs. sounds (loads_among (expressions_from xs))) c.deref-in-Max.ensures.value ∙ sym e ∙ c.requires.sound))
 
 pub check_loads-returns-in-Min : goal.check_loads-returns-in-Min
 check_loads-returns-in-Min t c =

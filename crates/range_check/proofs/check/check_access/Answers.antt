@@ -15,22 +15,22 @@ use Rattle.range_check.proofs.check.check_access.Goals as goal
 
 pub bounds-subscripts-dimension : goal.bounds-subscripts-dimension
 bounds-subscripts-dimension c =
-    let known = dimensions c.args.program.now c.args.access.now c.args.path.now c.index.result.now c.as_slice-bounds.result.now c.requires.formed c.requires.sound c.index.ensures c.as_slice-bounds.ensures.value in
+    let known = dimensions c.args.program.now c.args.access.now c.args.path.now c.index.result.now c.as_slice-bounds.result.now c.args.program.now.formed c.requires.sound c.index.ensures c.as_slice-bounds.ensures.value in
     omega (arith, known.as_many, c.loop-dimension-test.true, ap (λ (fs : List Form). length fs) c.as_slice-subscripts.ensures)
 
 pub offset_bounds-subscripts-dimension : goal.offset_bounds-subscripts-dimension
 offset_bounds-subscripts-dimension c =
-    let known = dimensions c.args.program.now c.args.access.now c.args.path.now c.index.result.now c.as_slice-bounds.result.now c.requires.formed c.requires.sound c.index.ensures c.as_slice-bounds.ensures.value in
+    let known = dimensions c.args.program.now c.args.access.now c.args.path.now c.index.result.now c.as_slice-bounds.result.now c.args.program.now.formed c.requires.sound c.index.ensures c.as_slice-bounds.ensures.value in
     search (rules, known.few)
 
 pub overflow_cast-dimension : goal.overflow_cast-dimension
 overflow_cast-dimension c =
-    let known = dimensions c.args.program.now c.args.access.now c.args.path.now c.index.result.now c.as_slice-bounds.result.now c.requires.formed c.requires.sound c.index.ensures c.as_slice-bounds.ensures.value in
+    let known = dimensions c.args.program.now c.args.access.now c.args.path.now c.index.result.now c.as_slice-bounds.result.now c.args.program.now.formed c.requires.sound c.index.ensures c.as_slice-bounds.ensures.value in
     search (rules, known.few)
 
 pub overflow_add-dimension : goal.overflow_add-dimension
 overflow_add-dimension c =
-    let known = dimensions c.args.program.now c.args.access.now c.args.path.now c.index.result.now c.as_slice-bounds.result.now c.requires.formed c.requires.sound c.index.ensures c.as_slice-bounds.ensures.value in
+    let known = dimensions c.args.program.now c.args.access.now c.args.path.now c.index.result.now c.as_slice-bounds.result.now c.args.program.now.formed c.requires.sound c.index.ensures c.as_slice-bounds.ensures.value in
     search (rules, known.few)
 
 pub returns-in_err-check_subscript : goal.returns-in_err-check_subscript
@@ -42,7 +42,7 @@ returns-in_err-check_subscript c =
     let rest = first_outside line (d + 1 + 1) (drop (d + 1) bounds) (drop (d + 1) values) in
     let fits : FitsSigned w64 c.value_at-value.result = search rules in
     let value = ap (subscript_outside line (d + 1) (get_or c.as_slice-bounds.result.now d (pos 0, pos 0))) (to_z-of_z w64 c.value_at-value.result fits) in
-    let step = dimension_step c.args.program.now c.args.access.now c.args.path.now c.index.result.now c.as_slice-bounds.result.now c.requires.formed c.requires.sound c.index.ensures c.as_slice-bounds.ensures.value c.args.line c.loop-dimension.dimension c.as_slice-subscripts.result.now c.index-subscripts-dimension.result c.deref.result.now c.value_at-value.result c.requires.numbered c.as_slice-subscripts.ensures c.loop-dimension-test.true c.index-subscripts-dimension.is c.deref.ensures.value c.value_at-value.ensures.value in
+    let step = dimension_step c.args.program.now c.args.access.now c.args.path.now c.index.result.now c.as_slice-bounds.result.now c.args.program.now.formed c.requires.sound c.index.ensures c.as_slice-bounds.ensures.value c.args.line c.loop-dimension.dimension c.as_slice-subscripts.result.now c.index-subscripts-dimension.result c.deref.result.now c.value_at-value.result c.requires.numbered c.as_slice-subscripts.ensures c.loop-dimension-test.true c.index-subscripts-dimension.is c.deref.ensures.value c.value_at-value.ensures.value in
     let same : c.from_residual.result ≡ Err c.in_err-check_subscript.field-0.0 = search rules in
     ap result_err same ∙ first_refused c.in_err-check_subscript.field-0.0 _ rest _ (c.in_err-check_subscript.ensures ∙ value) (sym c.loop-dimension.invariant ∙ step)
 
@@ -55,9 +55,9 @@ loop-dimension-preserved c =
     let rest = first_outside line (d + 1 + 1) (drop (d + 1) bounds) (drop (d + 1) values) in
     let fits : FitsSigned w64 c.value_at-value.result = search rules in
     let value = ap (subscript_outside line (d + 1) (get_or c.as_slice-bounds.result.now d (pos 0, pos 0))) (to_z-of_z w64 c.value_at-value.result fits) in
-    let step = dimension_step c.args.program.now c.args.access.now c.args.path.now c.index.result.now c.as_slice-bounds.result.now c.requires.formed c.requires.sound c.index.ensures c.as_slice-bounds.ensures.value c.args.line c.loop-dimension.dimension c.as_slice-subscripts.result.now c.index-subscripts-dimension.result c.deref.result.now c.value_at-value.result c.requires.numbered c.as_slice-subscripts.ensures c.loop-dimension-test.true c.index-subscripts-dimension.is c.deref.ensures.value c.value_at-value.ensures.value in
+    let step = dimension_step c.args.program.now c.args.access.now c.args.path.now c.index.result.now c.as_slice-bounds.result.now c.args.program.now.formed c.requires.sound c.index.ensures c.as_slice-bounds.ensures.value c.args.line c.loop-dimension.dimension c.as_slice-subscripts.result.now c.index-subscripts-dimension.result c.deref.result.now c.value_at-value.result c.requires.numbered c.as_slice-subscripts.ensures c.loop-dimension-test.true c.index-subscripts-dimension.is c.deref.ensures.value c.value_at-value.ensures.value in
     ap (λ o. option_or o rest) (c.in_ok-check_subscript.ensures ∙ value) ∙ sym step ∙ c.loop-dimension.invariant
 
 pub returns : goal.returns
 returns c =
-    sym (all_dimensions c.args.program.now c.args.access.now c.args.path.now c.index.result.now c.as_slice-bounds.result.now c.requires.formed c.requires.sound c.index.ensures c.as_slice-bounds.ensures.value c.args.line c.loop-dimension.dimension c.loop-dimension-test.false) ∙ c.loop-dimension.invariant
+    sym (all_dimensions c.args.program.now c.args.access.now c.args.path.now c.index.result.now c.as_slice-bounds.result.now c.args.program.now.formed c.requires.sound c.index.ensures c.as_slice-bounds.ensures.value c.args.line c.loop-dimension.dimension c.loop-dimension-test.false) ∙ c.loop-dimension.invariant

@@ -30,7 +30,7 @@ check_work-requires-clause-sound c = λ w is.
     let rest = instances_left c.next.new.self in
     let same = next.program ∙ c.loop-stop.invariant.walked in
     let smalls = and_parts (is_small_instance (param_values tree) i) (list_all (is_small_instance (param_values tree)) rest) (sym (ap (list_all (is_small_instance (param_values tree))) next.instance.2) ∙ c.loop-stop.invariant.small) in
-    here_sound tree walked (rounds_of c.path.result.now) around stop.first s i same c.path.ensures c.requires.formed next.instance.1 next.text smalls.0 w is
+    here_sound tree walked (rounds_of c.path.result.now) around stop.first s i same c.path.ensures c.args.program.now.formed next.instance.1 next.text smalls.0 w is
 
 pub check_work-requires-clause-numbered : goal.check_work-requires-clause-numbered
 check_work-requires-clause-numbered c =
@@ -78,7 +78,7 @@ loop-stop-preserved c =
     let nests = subst (AllByRecursion (IsNestedInstance (param_values tree) (nested_works tree))) next.instance.2 c.loop-stop.invariant.nested in
     let number = ap (λ (x : Instance). x.statement) (instance_at walked around stop.first s i next.instance.1).instance_is in
     let set = c.is_certified_at.ensures c.if-not-is_certified_at.false in
-    let here = certified_instance tree c.requires.formed i nests.0 (λ n at. c.requires.certified (i.statement - 1) n (ap (λ k. slice_get c.args.certified.now (k - 1)) number ∙ set) at) in
+    let here = certified_instance tree c.args.program.now.formed i nests.0 (λ n at. c.requires.certified (i.statement - 1) n (ap (λ k. slice_get c.args.certified.now (k - 1)) number ∙ set) at) in
     record {
       walked = same;
       small = smalls.1;

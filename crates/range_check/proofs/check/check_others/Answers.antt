@@ -34,8 +34,8 @@ loop-stop-init c =
     let all = ap (flat_map (stop_instances (param_values tree))) c.new-stops.ensures.visits ∙ stops_same tree (enters_but _) in
     record {
       walked = c.new-stops.ensures.program;
-      small = ap (list_all (is_small_instance (param_values tree))) all ∙ instances_small tree c.requires.formed c.requires.limits;
-      nested = subst (AllByRecursion (IsNestedInstance (param_values tree) (nested_works tree))) (sym all) (instance_nested tree c.requires.formed);
+      small = ap (list_all (is_small_instance (param_values tree))) all ∙ instances_small tree c.args.program.now.formed c.args.program.now.limits;
+      nested = subst (AllByRecursion (IsNestedInstance (param_values tree) (nested_works tree))) (sym all) (instance_nested tree c.args.program.now.formed);
       first = ap (instances_outside tree) all;
       own = c.none-instances.ensures.program;
     }
@@ -115,7 +115,7 @@ loop-stop-preserved c =
     let set = c.are_certified.ensures c.if-not-are_certified.false in
     let behind : stop.first + works_in (statement_of stop.item.now) ≡ stop.first + c.works.result = ap (λ n. stop.first + n) (sym c.works.ensures) in
     let numbers = subst (λ n. AllByRecursion (IsWithin stop.first n) here) behind (numbers_within params (statement_of stop.item.now) stop.first (loops_in tree rounds)) in
-    let none = certified_within tree c.requires.formed c.args.certified.now stop.first (stop.first + c.works.result) set c.requires.certified here nests.0 numbers in
+    let none = certified_within tree c.args.program.now.formed c.args.certified.now stop.first (stop.first + c.works.result) set c.requires.certified here nests.0 numbers in
     record {
       walked = walked;
       small = parts.1;

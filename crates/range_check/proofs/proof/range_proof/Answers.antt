@@ -9,33 +9,33 @@ use Rattle.range_check.proofs.proof.range_proof.Goals as goal
 pub dimension_proof-requires-clause-seen : goal.dimension_proof-requires-clause-seen
 dimension_proof-requires-clause-seen c =
     let lt : c.loop-nested.before < length c.in_ok-found.found.items = omega (arith, c.if-before-len.true, c.len.ensures, c.in_ok-found.found.ok.0) in
-    let f = found_site (tree_of c.args.program.now) c.requires.formed c.in_ok-works.works.items c.deref-nested-items.result.now c.loop-nested.nested-index c.loop-nested.before c.args.access c.nested-item.result c.in_ok-found.found.items c.index.result.now
+    let f = found_site (tree_of c.args.program.now) c.args.program.now.formed c.in_ok-works.works.items c.deref-nested-items.result.now c.loop-nested.nested-index c.loop-nested.before c.args.access c.nested-item.result c.in_ok-found.found.items c.index.result.now
     c.in_ok-works.ensures c.deref-nested-items.ensures.value c.loop-nested-test.true c.nested-item.is c.in_ok-found.ensures lt c.index.ensures c.loop-nested.invariant in
     (f.nested, f.view)
 
 pub dimension_proof-requires-clause-steps : goal.dimension_proof-requires-clause-steps
 dimension_proof-requires-clause-steps c =
     let lt : c.loop-nested.before < length c.in_ok-found.found.items = omega (arith, c.if-before-len.true, c.len.ensures, c.in_ok-found.found.ok.0) in
-    (found_site (tree_of c.args.program.now) c.requires.formed c.in_ok-works.works.items c.deref-nested-items.result.now c.loop-nested.nested-index c.loop-nested.before c.args.access c.nested-item.result c.in_ok-found.found.items c.index.result.now
+    (found_site (tree_of c.args.program.now) c.args.program.now.formed c.in_ok-works.works.items c.deref-nested-items.result.now c.loop-nested.nested-index c.loop-nested.before c.args.access c.nested-item.result c.in_ok-found.found.items c.index.result.now
     c.in_ok-works.ensures c.deref-nested-items.ensures.value c.loop-nested-test.true c.nested-item.is c.in_ok-found.ensures lt c.index.ensures c.loop-nested.invariant).steps
 
 pub dimension_proof-requires-clause-there : goal.dimension_proof-requires-clause-there
 dimension_proof-requires-clause-there c =
     let lt : c.loop-nested.before < length c.in_ok-found.found.items = omega (arith, c.if-before-len.true, c.len.ensures, c.in_ok-found.found.ok.0) in
-    (found_site (tree_of c.args.program.now) c.requires.formed c.in_ok-works.works.items c.deref-nested-items.result.now c.loop-nested.nested-index c.loop-nested.before c.args.access c.nested-item.result c.in_ok-found.found.items c.index.result.now
+    (found_site (tree_of c.args.program.now) c.args.program.now.formed c.in_ok-works.works.items c.deref-nested-items.result.now c.loop-nested.nested-index c.loop-nested.before c.args.access c.nested-item.result c.in_ok-found.found.items c.index.result.now
     c.in_ok-works.ensures c.deref-nested-items.ensures.value c.loop-nested-test.true c.nested-item.is c.in_ok-found.ensures lt c.index.ensures c.loop-nested.invariant).there
 
 pub dimension_proof-requires-clause-low : goal.dimension_proof-requires-clause-low
 dimension_proof-requires-clause-low c =
     let lt : c.loop-nested.before < length c.in_ok-found.found.items = omega (arith, c.if-before-len.true, c.len.ensures, c.in_ok-found.found.ok.0) in
-    let f = found_site (tree_of c.args.program.now) c.requires.formed c.in_ok-works.works.items c.deref-nested-items.result.now c.loop-nested.nested-index c.loop-nested.before c.args.access c.nested-item.result c.in_ok-found.found.items c.index.result.now
+    let f = found_site (tree_of c.args.program.now) c.args.program.now.formed c.in_ok-works.works.items c.deref-nested-items.result.now c.loop-nested.nested-index c.loop-nested.before c.args.access c.nested-item.result c.in_ok-found.found.items c.index.result.now
     c.in_ok-works.ensures c.deref-nested-items.ensures.value c.loop-nested-test.true c.nested-item.is c.in_ok-found.ensures lt c.index.ensures c.loop-nested.invariant in
     (c.requires.dimension (site_of f.nested c.index.result.now.access.now) f.site).0
 
 pub dimension_proof-requires-clause-high : goal.dimension_proof-requires-clause-high
 dimension_proof-requires-clause-high c =
     let lt : c.loop-nested.before < length c.in_ok-found.found.items = omega (arith, c.if-before-len.true, c.len.ensures, c.in_ok-found.found.ok.0) in
-    let f = found_site (tree_of c.args.program.now) c.requires.formed c.in_ok-works.works.items c.deref-nested-items.result.now c.loop-nested.nested-index c.loop-nested.before c.args.access c.nested-item.result c.in_ok-found.found.items c.index.result.now
+    let f = found_site (tree_of c.args.program.now) c.args.program.now.formed c.in_ok-works.works.items c.deref-nested-items.result.now c.loop-nested.nested-index c.loop-nested.before c.args.access c.nested-item.result c.in_ok-found.found.items c.index.result.now
     c.in_ok-works.ensures c.deref-nested-items.ensures.value c.loop-nested-test.true c.nested-item.is c.in_ok-found.ensures lt c.index.ensures c.loop-nested.invariant in
     (c.requires.dimension (site_of f.nested c.index.result.now.access.now) f.site).1
 
@@ -43,7 +43,7 @@ pub returns-then-before-len-clause-good : goal.returns-then-before-len-clause-go
 returns-then-before-len-clause-good c = λ s is.
     let tree = tree_of c.args.program.now in
     let lt : c.loop-nested.before < length c.in_ok-found.found.items = omega (arith, c.if-before-len.true, c.len.ensures, c.in_ok-found.found.ok.0) in
-    let f = found_site tree c.requires.formed c.in_ok-works.works.items c.deref-nested-items.result.now c.loop-nested.nested-index c.loop-nested.before c.args.access c.nested-item.result c.in_ok-found.found.items c.index.result.now
+    let f = found_site tree c.args.program.now.formed c.in_ok-works.works.items c.deref-nested-items.result.now c.loop-nested.nested-index c.loop-nested.before c.args.access c.nested-item.result c.in_ok-found.found.items c.index.result.now
     c.in_ok-works.ensures c.deref-nested-items.ensures.value c.loop-nested-test.true c.nested-item.is c.in_ok-found.ensures lt c.index.ensures c.loop-nested.invariant in
     let same = one_element _ (site_of f.nested c.index.result.now.access.now) s f.site is in
     subst (λ (t : Site). IfOk c.dimension_proof.result (λ o. IfSome o (AreProof tree t c.args.dimension))) same (c.dimension_proof.ensures.good f.nested f.view)
@@ -52,7 +52,7 @@ pub returns-then-before-len-clause-kept : goal.returns-then-before-len-clause-ke
 returns-then-before-len-clause-kept c = λ s is.
     let tree = tree_of c.args.program.now in
     let lt : c.loop-nested.before < length c.in_ok-found.found.items = omega (arith, c.if-before-len.true, c.len.ensures, c.in_ok-found.found.ok.0) in
-    let f = found_site tree c.requires.formed c.in_ok-works.works.items c.deref-nested-items.result.now c.loop-nested.nested-index c.loop-nested.before c.args.access c.nested-item.result c.in_ok-found.found.items c.index.result.now
+    let f = found_site tree c.args.program.now.formed c.in_ok-works.works.items c.deref-nested-items.result.now c.loop-nested.nested-index c.loop-nested.before c.args.access c.nested-item.result c.in_ok-found.found.items c.index.result.now
     c.in_ok-works.ensures c.deref-nested-items.ensures.value c.loop-nested-test.true c.nested-item.is c.in_ok-found.ensures lt c.index.ensures c.loop-nested.invariant in
     let same = one_element _ (site_of f.nested c.index.result.now.access.now) s f.site is in
     subst (λ (t : Site). IfOk c.dimension_proof.result (λ o. IfNone o (IsKeptAs (below tree t c.args.dimension) (length t.around) ⊎ IsKeptAs (above tree t c.args.dimension) (length t.around)))) same (c.dimension_proof.ensures.kept c.whole-effort.ensures f.nested f.view)

@@ -6,11 +6,11 @@ use Rattle.reason_witness.proofs.account.prints.Goals as goal
 use Rattle.reason_witness.proofs.account.prints.Goals.{then-number-eq0-via-then-number-eq0, then-number-eq0-via-else-number-eq0+then-number-loop_count}
 
 pub loop_count-requires : goal.loop_count-requires
-loop_count-requires c = omega (arith, loops-few (tree_of c.args.program.now) c.requires)
+loop_count-requires c = omega (arith, loops-few (tree_of c.args.program.now) c.args.program.now.formed)
 
 pub returns-then-number-eq0 : goal.returns-then-number-eq0
 returns-then-number-eq0 c =
-    sym (no_loop (tree_of c.args.program.now) c.args.number c.requires (elim c.then-number-eq0.branch [
+    sym (no_loop (tree_of c.args.program.now) c.args.number c.args.program.now.formed (elim c.then-number-eq0.branch [
       | then-number-eq0-via-then-number-eq0 w ↦ inl w.if-number-eq0.true
       | then-number-eq0-via-else-number-eq0+then-number-loop_count w ↦ inr (omega (arith, w.if-number-loop_count.true, w.loop_count.ensures))
     ]))

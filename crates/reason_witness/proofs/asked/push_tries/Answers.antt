@@ -12,5 +12,5 @@ returns c =
     let tree = tree_of c.args.program.now in
     let n = c.args.number in
     let tries = c.as_slice-tried-items.result.now in
-    let all = take_all c.loop-tried.tried-index tries c.loop-tried-test.false ∙ c.as_slice-tried-items.ensures.value ∙ c.in_ok-tries.ensures ∙ tries_there tree n c.requires.formed c.requires.some c.requires.there in
+    let all = take_all c.loop-tried.tried-index tries c.loop-tried-test.false ∙ c.as_slice-tried-items.ensures.value ∙ c.in_ok-tries.ensures ∙ tries_there tree n c.args.program.now.formed c.requires.some c.requires.there in
     c.loop-tried.invariant ∙ ap (λ ts. map serial_question c.args.loops.now.items ++ map try_question (map (attempt n) ts)) all

@@ -7,7 +7,7 @@ use Rattle.spmd_answer.proofs.answer.made_plan.Goals as goal
 pub text_of_plan-requires : goal.text_of_plan-requires
 text_of_plan-requires c =
     let made = c.in_ok-plan.ensures in
-    counts_of_fit (tree_of c.args.program.now) c.in_ok-plan.plan c.requires.formed made.conditions made.accepted.fits
+    counts_of_fit (tree_of c.args.program.now) c.in_ok-plan.plan c.args.program.now.formed made.conditions made.accepted.fits
 
 pub returns-clause-due : goal.returns-clause-due
 returns-clause-due c = λ settings at bytes. written _ (c.in_ok-plan.plan, c.in_ok-plan.reasons, c.in_ok-plan.ensures, c.in_ok-text_of_plan.ensures) c.done.ensures

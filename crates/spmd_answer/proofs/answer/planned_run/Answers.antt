@@ -10,7 +10,7 @@ pub text_of_run-requires-clause-fits : goal.text_of_run-requires-clause-fits
 text_of_run-requires-clause-fits g c = λ κs lives. c.in-Ok.ensures.accepted.fits
 
 pub text_of_run-requires-clause-ordered : goal.text_of_run-requires-clause-ordered
-text_of_run-requires-clause-ordered g c = λ κs lives. accepted_ordered (tree_of c.args.program.now) c.in-Ok.plan c.requires.formed c.requires.ranges c.in-Ok.ensures.accepted
+text_of_run-requires-clause-ordered g c = λ κs lives. accepted_ordered (tree_of c.args.program.now) c.in-Ok.plan c.args.program.now.formed c.requires.ranges c.in-Ok.ensures.accepted
 
 pub returns-in_ok-text-in-Ok-clause-due : goal.returns-in_ok-text-in-Ok-clause-due
 returns-in_ok-text-in-Ok-clause-due g c = λ settings at. written _ (c.in-Ok.plan, (c.in-Ok.ensures.plan, c.in_ok-text-in-Ok.ensures.text)) c.done.ensures

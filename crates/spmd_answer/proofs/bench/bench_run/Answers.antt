@@ -5,7 +5,7 @@ use Rattle.spmd_answer.proofs.bench.bench_run.Goals as goal
 
 pub output_by-requires-clause-ordered : goal.output_by-requires-clause-ordered
 output_by-requires-clause-ordered g c κs within =
-    accepted_ordered (tree_of c.args.program.now) c.in_ok-plan.plan c.requires.formed c.requires.ranges c.in_ok-plan.ensures.accepted
+    accepted_ordered (tree_of c.args.program.now) c.in_ok-plan.plan c.args.program.now.formed c.requires.ranges c.in_ok-plan.ensures.accepted
 
 pub returns : goal.returns
 returns g c =

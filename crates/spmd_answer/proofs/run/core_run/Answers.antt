@@ -11,8 +11,8 @@ use Rattle.spmd_machine.specs.Machines.{model_of, plan_in, shown, tree_in}
 use Rattle.spmd_answer.proofs.Left.{core_left}
 use Rattle.spmd_answer.proofs.run.core_run.Goals as goal
 
-pub of-requires-clause-ended : goal.of-requires-clause-ended
-of-requires-clause-ended c =
+pub of-receipt-requires-clause-ended : goal.of-receipt-requires-clause-ended
+of-receipt-requires-clause-ended c =
     let same = c.round_robin.ensures.same in
     let model : model_of c.round_robin.new.self ≡ model_of c.in_ok-machine.machine = λ i. machine_by (same.style i) (same.program i) (same.plan i) in
     subst (λ (m : Machine). IsEnded m (shown c.round_robin.new.self)) (sym model) c.round_robin.ensures.ended
@@ -25,7 +25,7 @@ returns-clause-output c =
     let plan_is : plan_in machine ≡ c.args.plan.now = c.in_ok-machine.ensures.plan in
     let ordered : IsOrdered (tree_in machine) (plan_in machine) =
     subst (λ (t : Tree). IsOrdered t (plan_in machine)) (sym tree_is) (subst (λ (p : Plan). IsOrdered tree p) (sym plan_is) c.requires.ordered) in
-    let output : c.output.result.now.bytes ≡ output_of tree = c.output.ensures.shown ∙ (c.round_robin.ensures.output ordered ∙ ap output_of tree_is) in
+    let output : c.of-receipt.result.1.bytes ≡ output_of tree = c.of-receipt.ensures.output ∙ (c.round_robin.ensures.output ordered ∙ ap output_of tree_is) in
     search (rules, output)
 
 pub returns-clause-receipt : goal.returns-clause-receipt
@@ -38,5 +38,5 @@ returns-clause-receipt c =
     let style_is = same.style ∙ c.in_ok-machine.ensures.style in
     let ordered : IsOrdered (tree_in machine) (plan_in machine) =
     subst (λ (t : Tree). IsOrdered t (plan_in machine)) (sym tree_is) (subst (λ (p : Plan). IsOrdered tree p) (sym plan_is) c.requires.ordered) in
-    let made = c.of.ensures in
-    core_left c.args.style tree c.args.plan.now c.of.result (made.style ∙ style_is) (made.plan ∙ plan_is) (made.program ∙ tree_is) (made.last ordered ∙ ap last_memory tree_is) made.run
+    let made = c.of-receipt.ensures in
+    core_left c.args.style tree c.args.plan.now c.of-receipt.result.0 (made.style ∙ style_is) (made.plan ∙ plan_is) (made.program ∙ tree_is) (made.last ordered ∙ ap last_memory tree_is) made.run

@@ -12,7 +12,7 @@ use Rattle.turns.proofs.counters.owner_before.Goals as goal
 use Rattle.turns.proofs.counters.owner_before.Goals.{In-Some}
 
 given : (c : In-Some) → IsGivenAnchor (loops_of (phases_tree c.args.phases.now).items) (length (phases_tree c.args.phases.now).params) c.in-Some.anchor.now
-given c = producer_given (phases_tree c.args.phases.now) c.args.plan.now (c.args.place - 1) c.args.kind.now c.in-Some.anchor.now c.requires.formed c.requires.fits c.requires.kind (sym c.in-Some.ensures)
+given c = producer_given (phases_tree c.args.phases.now) c.args.plan.now (c.args.place - 1) c.args.kind.now c.in-Some.anchor.now c.args.phases.now.cursor.program.now.formed c.requires.fits c.requires.kind (sym c.in-Some.ensures)
 
 pub owner-requires-clause-given : goal.owner-requires-clause-given
 owner-requires-clause-given c =

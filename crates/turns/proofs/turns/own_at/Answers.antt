@@ -26,11 +26,11 @@ there : (tree : Tree) (plan : Plan) (place : ℕ) (item : Item) (nest : Nest) (a
     slice_get (static_phases tree plan.cut.marks) (place - 1) ≡ Some (record { what = loop_of nest; around = around })
 there tree plan place item nest around at is = at ∙ ap (λ s. Some (record { what = s; around = around })) (ap statement_of is ∙ statement_of-Loop nest)
 
-pub of_loop-requires-clause-few : goal.of_loop-requires-clause-few
-of_loop-requires-clause-few c =
+pub of_loop-requires : goal.of_loop-requires
+of_loop-requires c =
     let plan = c.args.plan.now in
     let at = there (tree_of c.args.program.now) plan c.args.place c.in-Some.text.item.now c.in-Loop.nest (loops_round c.in-Some.text) c.in-Some.ensures c.in-Loop.is in
-    subst (AreFew (tree_of c.args.program.now)) (ap (own_loop_at plan.cut) at) c.requires.few
+    record { few = subst (AreFew (tree_of c.args.program.now)) (ap (own_loop_at plan.cut) at) c.requires.few }
 
 pub returns-in-Loop-clause-cells : goal.returns-in-Loop-clause-cells
 returns-in-Loop-clause-cells c =

@@ -1,7 +1,7 @@
 use Rattle.std.proofs.Common.{◌<◌, length, sym, ◌∙◌, ap, subst, arith}
 use Rattle.std.proofs.lemmas.List.{drop_all}
 use Rattle.nest_tree.specs.View.{tree_of}
-use Rattle.nest_tree.specs.declared.tree.Program.{Program}
+use Rattle.nest_tree.specs.declared.program.Program.{Program}
 use Rattle.nest_model.specs.Memory.{last_memory}
 use Rattle.owner_partition.specs.Phases.{phases}
 use Rattle.sync_plan.proofs.Fits.{fit_parts}

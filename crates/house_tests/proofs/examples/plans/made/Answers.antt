@@ -5,4 +5,4 @@ use Rattle.house_tests.proofs.examples.plans.made.Goals as goal
 pub write_plan-requires : goal.write_plan-requires
 write_plan-requires c =
     let made = c.in_ok-plan.ensures in
-    counts_of_fit (tree_of c.args.program.now) c.in_ok-plan.plan c.requires.formed made.conditions made.accepted.fits
+    counts_of_fit (tree_of c.args.program.now) c.in_ok-plan.plan c.args.program.now.formed made.conditions made.accepted.fits

@@ -5,7 +5,7 @@ use Rattle.shared_words.specs.Calls.{ArrivesNext, GathersNext}
 use Rattle.shared_words.specs.Homes.{CellView, gone}
 use Rattle.shared_words.proofs.cells.CellSeat.TheSendSync as seat
 use Rattle.house_tests.proofs.StraightLine.{meets}
-use Rattle.house_tests.proofs.Sharing.{Cells-sync}
+use Rattle.spmd_workers.proofs.Crosses.{Cells-sync}
 use Rattle.house_tests.proofs.examples.words.two_threads.Goals as goal
 
 pub join-requires-send-F : goal.join-requires-send-F

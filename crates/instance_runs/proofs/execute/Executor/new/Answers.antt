@@ -17,12 +17,12 @@ returns-clause-can c =
     let lines = ap (λ xs. length xs) (c.in_ok-vec-2.ensures.items_if_clones_equal (λ y e. e)) ∙ length-replicate c.registers-most.result _ in
     let long = ap (λ xs. length xs) (c.in_ok-vec-3.ensures.items_if_clones_equal (λ y e. e)) ∙ length-replicate c.saturating_add-2.result (pos 0) in
     record {
-      formed = c.requires.formed;
-      limits = c.requires.limits;
+      formed = c.args.program.now.formed;
+      limits = c.args.program.now.limits;
       table = c.requires.table;
       params = c.requires.params;
       codes = c.in_ok-codes.ensures;
-      loops = omega (arith, loops, loops-few tree c.requires.formed);
+      loops = omega (arith, loops, loops-few tree c.args.program.now.formed);
       lines = omega (arith, lines, c.registers-most.ensures);
       registers = omega (arith, long, c.registers-most.ensures, c.saturating_add.ensures, c.saturating_add-2.ensures);
       room = λ n cells at. omega (arith, most n cells at, long, c.saturating_add.ensures, c.saturating_add-2.ensures);

@@ -18,11 +18,11 @@ use Rattle.nest_walk.proofs.GoodAccesses.{good_access-forms, good_access-there}
 use Rattle.nest_walk.proofs.PathLists.{by_depth-all, left_over-at, rounds_to-length, same_numbers}
 use Rattle.nest_walk.proofs.cells.CellForm.of_access.Goals as goal
 
-pub cell_on-base-requires-clause-there : goal.cell_on-base-requires-clause-there
-cell_on-base-requires-clause-there c = good_access-there (tree_of c.args.program.now) (numbers_of (rounds_of c.args.path.now)) c.args.access.now c.requires.good
+pub cell_on-base-requires : goal.cell_on-base-requires
+cell_on-base-requires c = record { there = good_access-there (tree_of c.args.program.now) (numbers_of (rounds_of c.args.path.now)) c.args.access.now c.requires.good }
 
-pub cell_on-requires-clause-there : goal.cell_on-requires-clause-there
-cell_on-requires-clause-there c = good_access-there (tree_of c.args.program.now) (numbers_of (rounds_of c.args.path.now)) c.args.access.now c.requires.good
+pub cell_on-requires : goal.cell_on-requires
+cell_on-requires c = record { there = good_access-there (tree_of c.args.program.now) (numbers_of (rounds_of c.args.path.now)) c.args.access.now c.requires.good }
 
 pub one_along-requires : goal.one_along-requires
 one_along-requires c =
@@ -55,7 +55,7 @@ returns c = λ p same numbers inside.
     let affine = affine-cell (pos (first_cell tree a.variable)) path.numbers path.depth (bounds_of tree a.variable) a.subscripts (param_values tree) in
     let around = numbers_of (rounds_of path) in
     let there = good_access-there tree around a c.requires.good in
-    let exact = exact_cell tree a (rounds_of p) c.requires.formed c.requires.limits there.low there.high there.as_many (good_access-forms (scope_of tree) around a c.requires.good) numbers inside in
+    let exact = exact_cell tree a (rounds_of p) c.args.program.now.formed c.args.program.now.limits there.low there.high there.as_many (good_access-forms (scope_of tree) around a c.requires.good) numbers inside in
     let sum = form_is g path.depth base steps p.values affine are c.loop-depth.invariant.six p.six (λ d le. left_over-at p.values p.depth d p.left_over (omega (arith, le, deep))) in
     let value = ap (λ vs. count_of (wrapped (base +ℤ dot_by_depth steps vs))) values ∙ ap count_of sum ∙ ap (λ rs. count_of (wrapped (cell_among tree a rs))) (sym rounds) ∙ ap (λ z. count_of (wrapped z)) (sym exact.cell)
     ∙ cell_in_64_bits (access_cell tree (by_number (loops_of tree.items) (rounds_of p)) a) exact.small in

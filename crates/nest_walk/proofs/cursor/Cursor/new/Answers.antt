@@ -16,7 +16,7 @@ invariant_of-result c =
     let levels = levels_to c.ended.result.all c.new.result.depth in record {
       sound = ap (λ rounds. is_sound (walk_in tree marks) rounds levels (record { statements = statements_from c.deref.result.now; place = 1; first = 1 })) c.new.ensures
           ∙ ap (λ items. is_sound (walk_in tree marks) [] levels (record { statements = statements_from items; place = 1; first = 1 })) c.deref.ensures.value
-          ∙ start_sound tree marks levels c.requires.formed c.requires.limits;
+          ∙ start_sound tree marks levels c.args.program.now.formed c.args.program.now.limits;
       texts =
           let start : List Item → Stretch = λ items. record { statements = statements_from items; place = 1; first = 1 } in
           subst (λ rounds. AreInText tree (walk_in tree marks) rounds levels (start c.deref.result.now)) (sym c.new.ensures)

@@ -9,7 +9,7 @@ use Rattle.owner_partition.proofs.phases.PhaseCursor.new.Goals as goal
 pub invariant_of-result-clause-counted : goal.invariant_of-result-clause-counted
 invariant_of-result-clause-counted c =
     let tree = tree_of c.args.program.now in
-    let few = stops-few tree (enters_but c.closed.result.now) c.requires.formed in
-    let most = (kept tree c.requires.limits).most_worked in
+    let few = stops-few tree (enters_but c.closed.result.now) c.args.program.now.formed in
+    let most = (kept tree c.args.program.now.limits).most_worked in
     let all = ap (λ (vs : List Visit). length vs) c.new.ensures.visits in
     omega (arith, all, few, most)

@@ -17,13 +17,13 @@ phase_among-requires-clause-good c =
       scope_of tree,
       1,
       ap (λ a. are_good_statements (scope_of tree) (numbers_round a) 1 (statements_from c.deref.result.now)) c.new.ensures
-          ∙ ap (λ xs. are_good_statements (scope_of tree) [] 1 (statements_from xs)) c.deref.ensures.value ∙ (well_formed_parts tree c.requires).statements,
+          ∙ ap (λ xs. are_good_statements (scope_of tree) [] 1 (statements_from xs)) c.deref.ensures.value ∙ (well_formed_parts tree c.args.program.now.formed).statements,
     )
 
 pub phase_among-requires-clause-stops : goal.phase_among-requires-clause-stops
 phase_among-requires-clause-stops c =
     let enters = enters_but c.closed.result.now in
-    omega (arith, few_phases (tree_of c.args.program.now) enters c.requires, ap (λ xs. stops_of enters (statements_from xs)) c.deref.ensures.value)
+    omega (arith, few_phases (tree_of c.args.program.now) enters c.args.program.now.formed, ap (λ xs. stops_of enters (statements_from xs)) c.deref.ensures.value)
 
 pub returns : goal.returns
 returns c =

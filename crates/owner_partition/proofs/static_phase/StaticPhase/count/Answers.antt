@@ -10,7 +10,7 @@ use Rattle.owner_partition.proofs.static_phase.StaticPhase.count.Goals as goal
 pub phase_count-requires : goal.phase_count-requires
 phase_count-requires c =
     let enters = enters_but c.closed.result.now in
-    omega (arith, few_phases (tree_of c.args.program.now) enters c.requires, ap (λ xs. stops_of enters (statements_from xs)) c.deref.ensures.value)
+    omega (arith, few_phases (tree_of c.args.program.now) enters c.args.program.now.formed, ap (λ xs. stops_of enters (statements_from xs)) c.deref.ensures.value)
 
 pub returns : goal.returns
 returns c =

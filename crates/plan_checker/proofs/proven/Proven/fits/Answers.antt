@@ -3,7 +3,7 @@ use Rattle.std.proofs.lemmas.List.{length-map}
 use Rattle.nest_tree.specs.Tree.{param_values}
 use Rattle.nest_tree.specs.View.{constant_of, tree_of}
 use Rattle.nest_tree.specs.declared.tree.Parameter.{Parameter}
-use Rattle.nest_tree.specs.declared.tree.Program.{Program}
+use Rattle.nest_tree.specs.declared.program.Program.{Program}
 use Rattle.nest_tree.proofs.FirstLimits.{values_of_constants}
 use Rattle.nest_agree.specs.Agree.{Agree}
 use Rattle.sync_plan.specs.declared.plan.Plan.{Plan}

@@ -111,7 +111,7 @@ run_code-value-requires-clause-good c =
     let code = c.work-code.result.now in
     let is = text-code tree (numbers_of (rounds_of path)) number a text c.args.self.now.codes code c.requires.ready.codes c.work-code.ensures in
     let written = c.requires.written in
-    is.good _ _ (placed-valued tree path number s placed c.requires.formed a what written.before c.deref-3.result.now c.deref-4.result.now written.long (c.deref-3.ensures.value ∙ written.is) (c.deref-4.ensures.value ∙ c.requires.ready.params))
+    is.good _ _ (placed-valued tree path number s placed c.args.self.now.program.now.formed a what written.before c.deref-3.result.now c.deref-4.result.now written.long (c.deref-3.ensures.value ∙ written.is) (c.deref-4.ensures.value ∙ c.requires.ready.params))
 
 pub index_mut-requires : goal.index_mut-requires
 index_mut-requires c =
@@ -167,7 +167,7 @@ returns-in-Some-clause-memory c = λ w same.
     let written = c.requires.written in
     let fits : FitsSigned w64 c.run_code-value.result = search rules in
     let result = to_z-of_z w64 c.run_code-value.result fits ∙ c.run_code-value.ensures.value a.value is in
-    let value = assign_here tree path number s placed c.requires.formed a what code is written.before c.deref-3.result.now c.deref-4.result.now c.deref_mut-2.result.now memory (to_z w64 (of_z w64 c.run_code-value.result)) written.long
+    let value = assign_here tree path number s placed c.args.self.now.program.now.formed a what code is written.before c.deref-3.result.now c.deref-4.result.now c.deref_mut-2.result.now memory (to_z w64 (of_z w64 c.run_code-value.result)) written.long
     (c.deref-3.ensures.value ∙ written.is) (c.deref-4.ensures.value ∙ c.requires.ready.params) loaded result in
     let this = same_work w placed.what (sym same ∙ placed.is) in
     let new = set memory c.at.result (to_z w64 (of_z w64 c.run_code-value.result)) in

@@ -53,7 +53,7 @@ push_line-requires-clause-texts c =
     let items = map printed_of c.in-Print.items.items in
     let p : Printing = record { items = items; line = c.in-Print.field-1 } in
     let what = same_work placed.what (print p) (sym placed.is ∙ ap statement_of c.in-Print.is) in
-    let good = sym (ap (is_good_work (scope_of tree) (numbers_of (rounds_of path))) what) ∙ placed-good tree path number s placed c.requires.formed in
+    let good = sym (ap (is_good_work (scope_of tree) (numbers_of (rounds_of path))) what) ∙ placed-good tree path number s placed c.args.self.now.program.now.formed in
     let back = written_back c.args.self.now.loops.len c.write_to.new.loops c.args.self.now.loops.items c.args.self.now.loops.ok.0 (c.write_to.auto.loops ∙ ap (λ (xs : List ℤ). length xs) c.deref_mut.ensures.value) in
     let written = back ∙ c.write_to.ensures ∙ ap (λ (xs : List ℤ). with_rounds xs (rounds_of path)) c.deref_mut.ensures.value in
     let loops = c.deref-in-Print-2.ensures.value ∙ written in
@@ -72,7 +72,7 @@ push_line-requires-clause-loads c =
     let items = map printed_of c.in-Print.items.items in
     let p : Printing = record { items = items; line = c.in-Print.field-1 } in
     let what = same_work placed.what (print p) (sym placed.is ∙ ap statement_of c.in-Print.is) in
-    let good = sym (ap (is_good_work (scope_of tree) (numbers_of (rounds_of path))) what) ∙ placed-good tree path number s placed c.requires.formed in
+    let good = sym (ap (is_good_work (scope_of tree) (numbers_of (rounds_of path))) what) ∙ placed-good tree path number s placed c.args.self.now.program.now.formed in
     let loaded = loaded_is tree path number s placed cells found c.args.self.now.memory.items c.deref.result.now c.values.result.now c.load.new.loaded.items c.deref-in-Print.result.now c.deref.ensures.value c.values.ensures c.deref-in-Print.ensures.value c.in_ok-load-in-Print.ensures in
     let loops = loops_in tree (rounds_of path) in
     let count = ap (λ (xs : List ℤ). length xs) (c.deref-in-Print-4.ensures.value ∙ loaded ∙ ap (λ w. loaded_at tree loops w c.args.self.now.memory.items) what) ∙ print_count tree loops p c.args.self.now.memory.items in
@@ -91,7 +91,7 @@ returns-in_ok-load-in-Print-clause-output c =
     let items = map printed_of c.in-Print.items.items in
     let p : Printing = record { items = items; line = c.in-Print.field-1 } in
     let what = same_work placed.what (print p) (sym placed.is ∙ ap statement_of c.in-Print.is) in
-    let good = sym (ap (is_good_work (scope_of tree) (numbers_of (rounds_of path))) what) ∙ placed-good tree path number s placed c.requires.formed in
+    let good = sym (ap (is_good_work (scope_of tree) (numbers_of (rounds_of path))) what) ∙ placed-good tree path number s placed c.args.self.now.program.now.formed in
     let loaded = loaded_is tree path number s placed cells found c.args.self.now.memory.items c.deref.result.now c.values.result.now c.load.new.loaded.items c.deref-in-Print.result.now c.deref.ensures.value c.values.ensures c.deref-in-Print.ensures.value c.in_ok-load-in-Print.ensures in
     let back = written_back c.args.self.now.loops.len c.write_to.new.loops c.args.self.now.loops.items c.args.self.now.loops.ok.0 (c.write_to.auto.loops ∙ ap (λ (xs : List ℤ). length xs) c.deref_mut.ensures.value) in
     let written = back ∙ c.write_to.ensures ∙ ap (λ (xs : List ℤ). with_rounds xs (rounds_of path)) c.deref_mut.ensures.value in

@@ -21,6 +21,6 @@ returns-clause-ready c =
       codes = c.in_ok-codes.ensures;
       lines = omega (arith, lines, c.registers-most.ensures);
       registers = omega (arith, registers, c.registers-most.ensures);
-      loops = omega (arith, loops, loops-few tree c.requires.formed);
-      memory = omega (arith, cells, c.cell_count.ensures, few_cells tree c.requires.limits);
+      loops = omega (arith, loops, loops-few tree c.args.program.now.formed);
+      memory = omega (arith, cells, c.cell_count.ensures, few_cells tree c.args.program.now.limits);
     }

@@ -299,7 +299,7 @@ run_code-result-requires-clause-good c =
     let n = innermost_is rounds c.number.result strip.inside c.number.ensures ∙ sym inv.loop_at in
     let loops = ap (λ k. set before.items (k - 1) v) n ∙ ap (λ xs. set xs (innermost old - 1) v) inv.written ∙ written_again self.loops.items old v c.loop-value.left.inside ∙ sym (ap (with_rounds self.loops.items) round) in
     let params = c.deref-in-Some-next-3.ensures.value ∙ ap (λ (p : Vec ℤ Global). p.items) inv.params ∙ c.requires.ready.params in
-    coded.good _ _ (placed-valued tree new.path stop.first s placed c.requires.formed a what self.loops.items c.deref-in-Some-next-2.result.now c.deref-in-Some-next-3.result.now c.requires.ready.loops (c.deref-in-Some-next-2.ensures.value ∙ loops) params)
+    coded.good _ _ (placed-valued tree new.path stop.first s placed c.args.self.now.program.now.formed a what self.loops.items c.deref-in-Some-next-2.result.now c.deref-in-Some-next-3.result.now c.requires.ready.loops (c.deref-in-Some-next-2.ensures.value ∙ loops) params)
 
 pub index_mut-requires-in-Some-next : goal.index_mut-requires-in-Some-next
 index_mut-requires-in-Some-next c =
@@ -390,7 +390,7 @@ loop-value-preserved c =
     ap (λ n. take n c.deref_mut-in-Some-next-2.result.now) (sym count) ∙ ap (take (length lines)) given ∙ c.load_lines.ensures.loaded
     ∙ ap (λ (m : List ℤ). map (λ (l : Line). cell_value m (cell_on l v)) lines) c.deref-in-Some-next.ensures.value
     ∙ trip_loaded tree new.path stop.first s placed rounds v here self.table cells c.requires.ready.table c.work-cells.ensures memory.items inv.cells a what lines laid in
-    let value = assign_here tree new.path stop.first s placed c.requires.formed a what code coded self.loops.items c.deref-in-Some-next-2.result.now c.deref-in-Some-next-3.result.now c.deref_mut-in-Some-next-2.result.now memory.items result
+    let value = assign_here tree new.path stop.first s placed c.args.self.now.program.now.formed a what code coded self.loops.items c.deref-in-Some-next-2.result.now c.deref-in-Some-next-3.result.now c.deref_mut-in-Some-next-2.result.now memory.items result
     c.requires.ready.loops (c.deref-in-Some-next-2.ensures.value ∙ loops) params loaded (to_z-of_z w64 c.run_code-result.result resulted ∙ c.run_code-result.ensures.value a.value coded) in
     let lined = subst (λ rs. IsLineOf c.in-Some.form rs c.line_of-store.result) c.path-path.ensures c.line_of-store.ensures in
     let after = set memory.items c.at.result result in

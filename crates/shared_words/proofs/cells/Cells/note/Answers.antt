@@ -1,6 +1,12 @@
-use Rattle.std.proofs.Common.{List, ℕ, sym, ◌∙◌, ap, arith}
+use Rattle.std.proofs.Common.{◌≡◌, refl, subst, List, ℕ, sym, ◌∙◌, ap, arith}
+use Rattle.atomic_table.specs.Seated.{TableId}
+use Rattle.shared_words.specs.declared.roles.Role.{Role}
+use Rattle.shared_words.specs.declared.roles.Role.TheVariants.{Main, Cell, Spent}
+use Rattle.shared_words.specs.declared.roles.Stage.{Stage}
 use Rattle.shared_words.specs.declared.view.View.{View}
-use Rattle.shared_words.specs.Homes.{CellView, Home, MainView, role_in}
+use Rattle.shared_words.specs.declared.view.View.TheVariants.{Seated, Away}
+use Rattle.shared_words.specs.Rule.{learnt, told}
+use Rattle.shared_words.specs.Homes.{CellView, Home, MainView, at_place, home_of, main_in, main_view, position_of, processor_of, role_in}
 use Rattle.shared_words.proofs.Seating.{learn_allowed, tell_allowed, told_role}
 use Rattle.shared_words.proofs.cells.Cells.note.Goals as goal
 
@@ -43,3 +49,25 @@ join_seat-requires-2 c =
       omega (arith, wide),
       learn_allowed c.self.inside.table.shared.key s.id new.id s.me.0 new.me.0 (ap (λ (x : View × List (ℕ × ℕ)). role_in x.0) made.4 ∙ told_role t.me.0),
     )
+
+-- the main seat learns what a processor's seat has learnt of it and tells
+learnt_twice : (id : TableId) (m s : View) (stages : List Stage) (p n misses seen : ℕ) → role_in m ≡ Main stages → role_in s ≡ Cell p n misses seen →
+    main_view id (learnt m (told (learnt s (told m)))) ≡ main_in (at_place (processor_of (role_in s)) (position_of (role_in s)) (home_of id m)) (main_view id m)
+learnt_twice id Away s stages p n misses seen main cell = let clash : Spent ≡ Main stages = main in absurd (cc)
+learnt_twice id (Seated a b c k r) Away stages p n misses seen main cell = let clash : Spent ≡ Cell p n misses seen = cell in absurd (cc)
+learnt_twice id (Seated a b c k r) (Seated a' b' c' k' q) stages p n misses seen main cell =
+    let Is : Role → Role → Type 0 = λ r q. main_view id (learnt (Seated a b c k r) (told (learnt (Seated a' b' c' k' q) (told (Seated a b c k r))))) ≡ main_in (at_place (processor_of q) (position_of q) (home_of id (Seated a b c k r))) (main_view id (Seated a b c k r)) in
+    subst (λ x. Is x q) (sym main) (subst (Is (Main stages)) (sym cell) refl)
+
+pub returns-clause-main : goal.returns-clause-main
+returns-clause-main c =
+    let m = c.main.inside.seat in let s = c.seat.inside.seat in
+    let news = c.split_seat-news.ensures in let place = c.split_seat-place.ensures in let last = c.join_seat-2.ensures in
+    let first = λ (x : View × List (ℕ × ℕ)). x.0 in
+    let learns = ap first c.join_seat.ensures.2 ∙ ap (λ v. learnt s.me.0 v) (ap first news.4) in
+    let tells = ap first place.4 ∙ ap told learns in
+    let view = ap first last.2 ∙ ap (λ v. learnt v c.split_seat-place.result.me.0) (ap first news.2) ∙ ap (learnt m.me.0) tells in
+    ap (λ id. main_view id c.join_seat-2.new.seat.me.0) (last.0 ∙ news.0) ∙ ap (main_view m.table_id) view
+    ∙ learnt_twice m.table_id m.me.0 s.me.0 _ _ _ _ _ c.main.invariant.0 c.seat.invariant.0.role
+    ∙ ap (λ (v : CellView). main_in (at_place v.processor v.position (home_of m.table_id m.me.0)) (main_view m.table_id m.me.0)) c.seat.view_is
+    ∙ ap (λ (x : MainView). main_in (at_place c.args.seat.now.processor c.args.seat.now.position x.home) x) c.main.view_is

@@ -27,20 +27,20 @@ use Rattle.spmd_machine.proofs.Fresh.{first_is, fresh_rooms, kept_fresh, reached
 use Rattle.spmd_machine.proofs.machine.Machine.new.Goals as goal
 
 pub overflow_cast-cell_count : goal.overflow_cast-cell_count
-overflow_cast-cell_count c = search (rules, c.cell_count.ensures, few_cells (tree_of c.args.program.now) c.requires.limits)
+overflow_cast-cell_count c = search (rules, c.cell_count.ensures, few_cells (tree_of c.args.program.now) c.args.program.now.limits)
 
 pub settle_all-requires : goal.settle_all-requires
 unfolding shown
 settle_all-requires c =
     let tree = tree_of c.args.program.now in
     let plan = c.args.plan.now in
-    let size : c.cell_count.result ≡ cell_count tree = omega (arith, c.cell_count.ensures, few_cells tree c.requires.limits) in
+    let size : c.cell_count.result ≡ cell_count tree = omega (arith, c.cell_count.ensures, few_cells tree c.args.program.now.limits) in
     let memory = c.in_ok-vec-3.ensures.items_if_clones_equal (λ y e. e) ∙ ap (λ n. replicate n (pos 0)) size in
     let ps = c.in_ok-processors_of.field-0.items in
     let count = c.in_ok-processors_of.ensures.count in
     let fresh = c.in_ok-processors_of.ensures.fresh in
     let table = c.in_ok-table.table in
-    let wide = table_wide tree table c.requires.formed c.in_ok-table.ensures in
+    let wide = table_wide tree table c.args.program.now.formed c.in_ok-table.ensures in
     let all = take_all c.loop-parameter.parameter-index c.deref-parameter-items.result.now c.loop-parameter-test.false in
     let loops = ap (λ xs. length xs) (c.in_ok-vec.ensures.items_if_clones_equal (λ y e. e)) ∙ length-replicate 400 (pos 0) in
     let room_of_codes = ap (λ xs. length xs) (c.in_ok-vec-2.ensures.items_if_clones_equal (λ y e. e)) ∙ length-replicate c.registers-most.result (pos 0) in
@@ -54,20 +54,20 @@ settle_all-requires c =
     let room : c.in_ok-room.room ≡ longest_output tree = walked ∙ ap (λ marks. sum_by (visit_room tree) (visits tree (enters_but marks))) (c.deref-2.ensures.value ∙ back) ∙ room_of_walk tree c.open_printing.new.closed silent in
     record {
       ready = record {
-        formed = c.requires.formed;
+        formed = c.args.program.now.formed;
         ranges = c.requires.ranges;
         fits = c.requires.fits;
         table = c.in_ok-table.ensures;
         wide = wide;
         codes = c.in_ok-codes.ensures;
         params = c.loop-parameter.invariant ∙ ap (map (λ (p : Parameter). p.value)) (all ∙ c.deref-parameter-items.ensures.value) ∙ sym (values_are c.args.program.now.params.items);
-        loops = omega (arith, loops, loops-few tree c.requires.formed);
+        loops = omega (arith, loops, loops-few tree c.args.program.now.formed);
         code_room = omega (arith, room_of_codes, c.registers-most.ensures);
         cells = cells;
         count = count;
-        kept = λ p d lt. kept_fresh c.args.style tree plan c.max.result c.requires.formed c.requires.limits c.requires.fits c.requires.ranges (entries table) p _ (omega (arith, lt, count)) wide c.requires.ranges (λ n w at. omega (arith, most n w at, larger)) some (fresh p d lt);
-        room = omega (arith, ap (λ (l : List ℕ). length l) c.in_ok-with_room.ensures.bytes, fresh_rooms c.args.style tree plan c.max.result c.requires.formed c.requires.limits c.requires.fits c.requires.ranges ps count fresh, room, c.in_ok-with_room.ensures.room);
-        reached = reached_first c.args.style tree plan _ (first_is c.args.style tree plan c.max.result c.requires.formed c.requires.limits c.requires.fits c.requires.ranges c.in_ok-processors_of.field-0.items c.in_ok-processors_of.ensures.count c.in_ok-processors_of.ensures.fresh c.in_ok-vec-3.field-0.items c.in_ok-with_room.field-0.bytes memory c.in_ok-with_room.ensures.bytes);
+        kept = λ p d lt. kept_fresh c.args.style tree plan c.max.result c.args.program.now.formed c.args.program.now.limits c.requires.fits c.requires.ranges (entries table) p _ (omega (arith, lt, count)) wide c.requires.ranges (λ n w at. omega (arith, most n w at, larger)) some (fresh p d lt);
+        room = omega (arith, ap (λ (l : List ℕ). length l) c.in_ok-with_room.ensures.bytes, fresh_rooms c.args.style tree plan c.max.result c.args.program.now.formed c.args.program.now.limits c.requires.fits c.requires.ranges ps count fresh, room, c.in_ok-with_room.ensures.room);
+        reached = reached_first c.args.style tree plan _ (first_is c.args.style tree plan c.max.result c.args.program.now.formed c.args.program.now.limits c.requires.fits c.requires.ranges c.in_ok-processors_of.field-0.items c.in_ok-processors_of.ensures.count c.in_ok-processors_of.ensures.fresh c.in_ok-vec-3.field-0.items c.in_ok-with_room.field-0.bytes memory c.in_ok-with_room.ensures.bytes);
       };
     }
 
@@ -76,9 +76,9 @@ unfolding shown
 returns-clause-first c =
     let tree = tree_of c.args.program.now in
     let plan = c.args.plan.now in
-    let size : c.cell_count.result ≡ cell_count tree = omega (arith, c.cell_count.ensures, few_cells tree c.requires.limits) in
+    let size : c.cell_count.result ≡ cell_count tree = omega (arith, c.cell_count.ensures, few_cells tree c.args.program.now.limits) in
     let memory = c.in_ok-vec-3.ensures.items_if_clones_equal (λ y e. e) ∙ ap (λ n. replicate n (pos 0)) size in
-    let begun = first_is c.args.style tree plan c.max.result c.requires.formed c.requires.limits c.requires.fits c.requires.ranges c.in_ok-processors_of.field-0.items c.in_ok-processors_of.ensures.count c.in_ok-processors_of.ensures.fresh c.in_ok-vec-3.field-0.items c.in_ok-with_room.field-0.bytes memory c.in_ok-with_room.ensures.bytes in
+    let begun = first_is c.args.style tree plan c.max.result c.args.program.now.formed c.args.program.now.limits c.requires.fits c.requires.ranges c.in_ok-processors_of.field-0.items c.in_ok-processors_of.ensures.count c.in_ok-processors_of.ensures.fresh c.in_ok-vec-3.field-0.items c.in_ok-with_room.field-0.bytes memory c.in_ok-with_room.ensures.bytes in
     let first : Machine = record { program = c.args.program; plan = c.args.plan; style = c.args.style; table = c.in_ok-table.table; codes = c.in_ok-codes.codes; params = c.loop-parameter.params; loops = c.in_ok-vec.field-0; code_registers = c.in_ok-vec-2.field-0; processors = c.in_ok-processors_of.field-0; memory = c.in_ok-vec-3.field-0; output = c.in_ok-with_room.field-0 } in
     settled_first first c.settle_all.new.self begun c.settle_all.ensures.same c.settle_all.ensures.state
 

@@ -1,8 +1,8 @@
-use Rattle.std.proofs.Common.{◌≡◌, sym, ◌∙◌, ap, subst, take}
+use Rattle.std.proofs.Common.{◌≡◌, refl, sym, ◌∙◌, ap, subst, take}
 use Rattle.std.specs.List.{flat_map}
 use Rattle.std.proofs.lemmas.List.{take_at}
 use Rattle.nest_tree.specs.View.{tree_of}
-use Rattle.nest_tree.specs.declared.tree.Program.{Program}
+use Rattle.nest_tree.specs.declared.program.Program.{Program}
 use Rattle.sync_plan.specs.declared.plan.Plan.{Plan}
 use Rattle.spmd_model.specs.States.{State}
 use Rattle.spmd_model.specs.Runs.{IsEnded}
@@ -27,8 +27,8 @@ has_run m program plan ready ended p q =
     } in
     subst (λ (x : Program). HasRun (record { program = x; plan = plan; style = m.style; memory = m.memory.items })) (sym p) (subst (λ (x : Plan). HasRun (record { program = m.program.now; plan = x; style = m.style; memory = m.memory.items })) (sym q) run)
 
-pub invariant_of-result : goal.invariant_of-result
-invariant_of-result c = has_run c.args.machine c.of-program.result.value c.of-plan.result.value c.requires.ready c.requires.ended c.of-program.ensures c.of-plan.ensures
+pub invariant_of-receipt : goal.invariant_of-receipt
+invariant_of-receipt c = has_run c.args.machine c.of-program.result.value c.of-plan.result.value c.requires.ready c.requires.ended c.of-program.ensures c.of-plan.ensures
 
 pub returns-clause-run : goal.returns-clause-run
 returns-clause-run c = has_run c.args.machine c.of-program.result.value c.of-plan.result.value c.requires.ready c.requires.ended c.of-program.ensures c.of-plan.ensures
@@ -44,3 +44,7 @@ returns-clause-last c = λ ordered.
     let m = c.args.machine in
     let ready = c.requires.ready in
     shared_memory m ready ∙ memory_at_end (style_in m) (tree_in m) (plan_in m) ready.formed ready.fits (shown m) ready.reached ready.ranges ordered c.requires.ended
+
+pub returns-clause-output : goal.returns-clause-output
+unfolding shown
+returns-clause-output c = refl

@@ -18,8 +18,8 @@ invariant_of-result c =
     let silent = subst (λ xs. AreSilent c.open_printing.new.closed (statements_from xs)) c.deref.ensures.value c.open_printing.ensures.silent in
     let walked = subst (λ (o : Option ℕ). IfSome o (λ n. n ≡ sum_by (visit_room tree) (visits tree (enters_but c.deref-2.result.now)))) c.in_ok-room.ensures.ok_part c.longest_output.ensures in
     record {
-      formed = c.requires.formed;
-      limits = c.requires.limits;
+      formed = c.args.program.now.formed;
+      limits = c.args.program.now.limits;
       ranges = c.requires.ranges;
       fits = c.requires.fits;
       cells = c.in_ok-cells.ensures;

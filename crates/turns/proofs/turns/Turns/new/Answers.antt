@@ -17,13 +17,13 @@ returns-clause-sound c =
     let tree = tree_of c.args.program.now in
     let plan = c.args.plan.now in
     let all = phases tree plan.cut.marks in
-    let none = none_past tree plan no_phase (past_phases tree plan c.requires.formed) in
+    let none = none_past tree plan no_phase (past_phases tree plan c.args.program.now.formed) in
     let count = ap length (ap beginnings c.new.ensures.turns ∙ all_begin tree plan c.args.processor 1 all) ∙ length-range_with_len 1 (length all) in
     record {
-      formed = c.requires.formed;
+      formed = c.args.program.now.formed;
       fits = c.requires.fits;
       worker = c.requires.worker;
-      few_cells = few_cells tree c.requires.limits;
+      few_cells = few_cells tree c.args.program.now.limits;
       sound = c.new.ensures.sound;
       same_tree = c.new.ensures.program;
       same_plan = c.new.ensures.plan;
