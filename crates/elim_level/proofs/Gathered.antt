@@ -1,8 +1,8 @@
 -- Candidates that are joined and tightened still cover the same rows, and still come from where they came.
-use Rattle.std.proofs.Common.{◌≡◌, ℕ, ◌<◌, ◌⊎◌, ⊎_elim, inl, inr, List, [], ◌∷◌, ◌++◌, map, length, get_or, take, refl, ap, sym, ◌∙◌, subst, arith}
+use Rattle.std.proofs.Common.{◌≡◌, ℕ, ◌<◌, ◌⊎◌, ⊎_elim, inl, inr, List, [], ◌∷◌, ◌++◌, map, length, get_or, refl, ap, sym, ◌∙◌, subst, arith}
 use Rattle.std.specs.List.{All, AllPairs, Contains}
 use Rattle.std.proofs.lemmas.List.{length-map, get_or-map}
-use Rattle.std.proofs.lemmas.List.Elements.{All-nil, All-map, Contains-get_or, All-cons, All-append, All-push, All-weaker, All-contains, All-contains_itself, All-take, Contains-push, Contains-append_left, Contains-append_right, Contains-push_cases}
+use Rattle.std.proofs.lemmas.List.Elements.{All-nil, All-map, Contains-get_or, All-cons, All-append, All-push, All-weaker, All-contains, All-contains_itself, Contains-push, Contains-append_left, Contains-append_right, Contains-push_cases}
 use lib.Signed.{≤ℤ_refl}
 use Rattle.list_lemmas.proofs.Elements.{Contains-map}
 use Rattle.farkas_cert.specs.declared.system.Row.{Row}
@@ -101,7 +101,3 @@ IsGathered-more v apart before lowers upper old new a joined = record {
 pub HasApart-gathered : (limit v : ℕ) (apart before all lowers : List Held) (upper : Held) (old : List Candidate) → ((u : Held) → Contains before u → Contains all u) → Contains all upper → IsGathered v apart before lowers old → HasApart limit (IsJoint v upper lowers old) → HasApart limit (IsSource v apart all lowers)
 HasApart-gathered limit v apart before all lowers upper old left here a h =
     HasApart-weaker limit (IsJoint v upper lowers old) (IsSource v apart all lowers) (IsSource-step v apart before all lowers upper old left here a) h
-
--- what the first elements of a list have, the list has
-pub Contains-take : {X : Type 0} (n : ℕ) (xs : List X) (x : X) → Contains (take n xs) x → Contains xs x
-Contains-take n xs x h = All-contains (Contains xs) (take n xs) x (All-take (Contains xs) n xs (All-contains_itself xs)) h

@@ -95,7 +95,8 @@ fn assemble(
     requires passed { (given : Given) × ArePassed given (map source_of sources.now) known.old }
     requires within { KeepsLimits known.old }
     ensures { (given : Given) → ArePassed given (map source_of sources.now) known.old
-        → IfOk result (λ p. tree_of_draft p ≡ reading.tree_from (names_view directives.now) known.old
+        → IfOk result (λ p. tree_of_draft p
+        ≡ reading.tree_from (names_view directives.now) known.old
         (reading.body_from (reading.variables_of known.old) given first_scene
         (map source_of sources.now) first_body)) }
 {

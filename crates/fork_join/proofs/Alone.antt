@@ -1,14 +1,15 @@
 -- A processor that goes on alone, over its own stores.
 use Rattle.std.proofs.Common.{◌≡◌, ℕ, ◌+◌, ◌<◌, ℤ, true, List, [], set, Some, sym, ◌∙◌, ap, subst, arith}
 use Rattle.nest_model.specs.Memory.{cell_value}
-use Rattle.spmd_model.specs.Lawful.{Moves}
+use Rattle.spmd_model.specs.Lawful.{Moves, put}
 use Rattle.spmd_model.specs.Quiet.{is_quiet}
 use Rattle.spmd_model.specs.Acts.{Act, load, print, store}
 use Rattle.spmd_model.specs.Laws.{Laws}
 use Rattle.spmd_model.specs.Protocols.{Protocol, act_at}
-use Rattle.fork_join.specs.Joins.{Goes, put}
+use Rattle.spmd_model.proofs.Places.{put_moves}
+use Rattle.fork_join.specs.Joins.{Goes}
 use Rattle.fork_join.specs.Overlays.{laid_in}
-use Rattle.fork_join.proofs.Crossing.{onwards, put_moves, stays}
+use Rattle.fork_join.proofs.Crossing.{onwards, stays}
 
 module _ (m : Protocol) (laws : Laws m) (p from : ℕ) (inside : p < m.workers) where
   pub goes_none : Goes m p from [] from

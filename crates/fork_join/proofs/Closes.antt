@@ -13,6 +13,7 @@ use Rattle.own_cells.specs.declared.cells.OwnCells.{OwnCells}
 use Rattle.spmd_model.specs.Cells.{plus}
 use Rattle.spmd_model.specs.Deeds.{Deed}
 use Rattle.spmd_model.specs.MachineDeeds.{keeping_deeds, totalling_deeds}
+use Rattle.spmd_model.specs.Lawful.{put}
 use Rattle.instance_runs.specs.declared.progress.Progress.{Progress}
 use Rattle.instance_runs.specs.declared.execute.Executor.{Executor}
 use Rattle.turns.specs.Turns.{Turn, closes, scalar_at, turn_deeds}
@@ -22,7 +23,7 @@ use Rattle.turns.specs.declared.turns.NextOrPhase.TheVariants as Coming
 use Rattle.turns.specs.declared.turns.Next.TheVariants.{Close}
 use Rattle.turns.proofs.OwnPlaces.{not_small, scalar_below, shared_there}
 use Rattle.fork_join.specs.Cursors.{ComesNext, IsCursor, IsSameCursor, IsShut, cursor_left, cursor_plan, cursor_tree, cursor_turns}
-use Rattle.fork_join.specs.Joins.{IsSafe, all_deeds, joined, own_place, protocol, put}
+use Rattle.fork_join.specs.Joins.{IsSafe, all_deeds, joined, own_place, protocol}
 use Rattle.fork_join.specs.Workers.{IsAt, IsClosing, Runs, turns_behind}
 use Rattle.fork_join.specs.declared.cursor.Cursor.{Cursor}
 use Rattle.fork_join.specs.declared.worker.Worker.{Worker}

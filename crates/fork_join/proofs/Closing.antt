@@ -8,15 +8,16 @@ use Rattle.sync_plan.specs.declared.plan.Plan.{Plan}
 use Rattle.spmd_model.specs.Cells.{plus}
 use Rattle.spmd_model.specs.Closings.{given_first}
 use Rattle.spmd_model.specs.Deeds.{Deed, adding, loading, storing}
-use Rattle.spmd_model.specs.Lawful.{Moves}
+use Rattle.spmd_model.specs.Lawful.{Moves, put}
 use Rattle.spmd_model.specs.MachineDeeds.{keeping_deeds, totalling_deeds}
 use Rattle.spmd_model.specs.Acts.{add, load, store}
 use Rattle.spmd_model.specs.declared.style.Style.TheVariants.{Arrive}
 use Rattle.spmd_model.specs.Protocols.{act_at}
 use Rattle.spmd_model.specs.PlanProtocols.{printed_by, registers_by}
-use Rattle.fork_join.specs.Joins.{HoldsOwn, IsSafe, all_deeds, own_place, protocol, put}
+use Rattle.spmd_model.proofs.Places.{put_moves}
+use Rattle.fork_join.specs.Joins.{HoldsOwn, IsSafe, all_deeds, own_place, protocol}
 use Rattle.fork_join.proofs.Acts.{add_there, load_there, store_there}
-use Rattle.fork_join.proofs.Crossing.{onwards, put_moves}
+use Rattle.fork_join.proofs.Crossing.{onwards}
 use Rattle.fork_join.proofs.Holding.{holds_still, holds_stored}
 use Rattle.fork_join.proofs.Seeing.{next_drop, next_get}
 

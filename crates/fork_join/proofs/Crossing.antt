@@ -4,7 +4,7 @@ use Rattle.std.specs.Prelude.{slice_get}
 use Rattle.std.specs.List.{Contains, flat_map}
 use Rattle.std.proofs.Math.Seq.{drop-append_seam}
 use Rattle.std.proofs.lemmas.List.{length-map}
-use Rattle.std.proofs.lemmas.Bool.{cases_Bool, cases_eq, cases_lt, eq-eqb, lt-ltb, ltb-true, ne_eqb}
+use Rattle.std.proofs.lemmas.Bool.{cases_Bool, cases_eq, cases_lt, lt-ltb, ltb-true}
 use Rattle.list_lemmas.proofs.Gets.{get-behind}
 use Rattle.nest_tree.specs.Tree.{Tree}
 use Rattle.nest_model.specs.Visits.{Visit}
@@ -15,21 +15,16 @@ use Rattle.sync_plan.specs.Own.{own_of}
 use Rattle.spmd_model.specs.Deeds.{Deed, awaiting, boundary_deeds, owned_by, posting}
 use Rattle.spmd_model.specs.MachineDeeds.{closing_deeds, deeds_by, own_deeds, part_deeds}
 use Rattle.spmd_model.specs.declared.style.Style.TheVariants.{Arrive}
-use Rattle.spmd_model.specs.Lawful.{IsPosted, Moves}
+use Rattle.spmd_model.specs.Lawful.{IsPosted, Moves, put}
 use Rattle.spmd_model.specs.Timelines.{counter}
 use Rattle.spmd_model.specs.Acts.{await, post}
 use Rattle.spmd_model.proofs.PlannedOrder.{awaited_posts}
+use Rattle.spmd_model.proofs.Places.{put_moves}
 use Rattle.spmd_model.specs.Protocols.{Protocol, act_at}
-use Rattle.fork_join.specs.Joins.{IsSafe, all_deeds, begun, begun_from, deeds_begun, deeds_behind, in_front, mixed, protocol, put}
+use Rattle.fork_join.specs.Joins.{IsSafe, all_deeds, begun, begun_from, deeds_begun, deeds_behind, in_front, mixed, protocol}
 use Rattle.fork_join.proofs.Acts.{await_there, post_there}
 
 -- ---- places that differ at one processor
-
-pub put_moves : (at : ℕ → ℕ) (p n : ℕ) → Moves at (put at p n) p n
-put_moves at p n = record {
-  here = ap (λ b. cond b n (at p)) (eq-eqb p p refl);
-  others = λ q ne. ap (λ b. cond b n (at q)) (ne_eqb q p ne);
-}
 
 pub same_at : (m : Protocol) (cells : List ℤ) (at after : ℕ → ℕ) → ((q : ℕ) → at q ≡ after q) → m.lawful cells at → m.lawful cells after
 same_at m cells at after same = subst (m.lawful cells) (λ i q. same q i)

@@ -22,10 +22,12 @@ use Rattle.spmd_model.specs.Machines.{machine_by}
 use Rattle.spmd_model.specs.MachineDeeds.{deeds_by}
 use Rattle.spmd_model.specs.Acts.{Act, acts_of, load}
 use Rattle.spmd_model.specs.declared.style.Style.TheVariants.{Arrive}
+use Rattle.spmd_model.specs.Lawful.{put}
 use Rattle.spmd_model.proofs.MachineDeeds.{acts_do}
-use Rattle.fork_join.specs.Joins.{Goes, IsSafe, all_deeds, begun, deeds_behind, in_front, joined, protocol, put}
+use Rattle.spmd_model.proofs.Places.{put_moves}
+use Rattle.fork_join.specs.Joins.{Goes, IsSafe, all_deeds, begun, deeds_behind, in_front, joined, protocol}
 use Rattle.fork_join.specs.Overlays.{laid_in}
-use Rattle.fork_join.proofs.Crossing.{begun_none, cross, in_front_is, in_front_none, mixed_below, mixed_moves, mixed_past, put_moves, same_at}
+use Rattle.fork_join.proofs.Crossing.{begun_none, cross, in_front_is, in_front_none, mixed_below, mixed_moves, mixed_past, same_at}
 use Rattle.fork_join.proofs.Turning.{phase_there}
 
 same_size : (a b : ℕ) → IsProp (a ≡ b)

@@ -32,6 +32,8 @@ use Rattle.spmd_model.specs.Deeds.{Deed, last_deed, loading, owned_by, printing}
 use Rattle.spmd_model.specs.MachineDeeds.{own_deeds}
 use Rattle.spmd_model.specs.declared.style.Style.TheVariants.{Arrive}
 use Rattle.spmd_model.specs.PlanProtocols.{printed_by, registers_by}
+use Rattle.spmd_model.specs.Lawful.{put}
+use Rattle.spmd_model.proofs.Places.{put_moves}
 use Rattle.instance_runs.specs.Executors.{CanExecute, executor_output, executor_room, executor_tree}
 use Rattle.instance_runs.specs.Rooms.{statement_room, visit_room}
 use Rattle.turns.specs.CounterTurns.{counter_room, CounterTurn, boundary_turns, is_counter_inside, counter_turns, works}
@@ -43,13 +45,13 @@ use Rattle.turns.specs.TurnsLeft.{turns_place, turns_rounds}
 use Rattle.turns.specs.declared.turns.NextOrPhase.TheVariants as Coming
 use Rattle.turns.specs.declared.turns.Next.TheVariants as Nexts
 use Rattle.fork_join.specs.Cursors.{ComesNext, IsCursor, IsSameCursor, cursor_left, cursor_turns}
-use Rattle.fork_join.specs.Joins.{IsSafe, all_deeds, begun, protocol, put}
+use Rattle.fork_join.specs.Joins.{IsSafe, all_deeds, begun, protocol}
 use Rattle.fork_join.specs.SeenDeeds.{phase_deed}
 use Rattle.fork_join.specs.Workers.{IsOverlay, IsCounterThere, Runs, turns_begun, turns_begun_from, turns_behind}
 use Rattle.fork_join.specs.declared.cursor.Cursor.{Cursor}
 use Rattle.fork_join.specs.declared.overlay.Overlay.{Overlay}
 use Rattle.fork_join.proofs.Acts.{print_there}
-use Rattle.fork_join.proofs.Crossing.{left_at, put_moves}
+use Rattle.fork_join.proofs.Crossing.{left_at}
 use Rattle.fork_join.proofs.Turning.{no_work, phase_begins, phase_next_drop, phase_there, tails, waiting_boundary}
 
 -- ---- lists of turns

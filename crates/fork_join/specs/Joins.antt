@@ -1,5 +1,5 @@
 -- Where the processors of a plan stand in front of a phase and behind its boundary, and a processor that goes on alone.
-use Rattle.std.specs.Prelude.{ℕ, suc, ◌+◌, ◌*◌, ◌-◌, ◌==◌, ◌≤◌, Some, ◌≡◌, ◌<◌, ℤ, nat_lt, List, [], ◌∷◌, ◌++◌, drop, length, slice_get, if◌then◌else◌}
+use Rattle.std.specs.Prelude.{ℕ, suc, ◌+◌, ◌*◌, ◌-◌, ◌≤◌, Some, ◌≡◌, ◌<◌, ℤ, nat_lt, List, [], ◌∷◌, ◌++◌, drop, length, slice_get, if◌then◌else◌}
 use Rattle.std.specs.List.{flat_map}
 use Rattle.nest_tree.specs.Layout.{cell_count}
 use Rattle.nest_tree.specs.Limits.{IsWithinLimits}
@@ -50,10 +50,6 @@ in_front tree plan n p = if nat_lt p plan.workers then length (all_deeds tree pl
 
 unfoldable pub begun : Tree → Plan → ℕ → ℕ → ℕ
 begun tree plan n p = if nat_lt p plan.workers then length (all_deeds tree plan p) - length (deeds_begun tree plan n p) else 0
-
--- places that differ at one processor
-abbrev pub put : (ℕ → ℕ) → ℕ → ℕ → ℕ → ℕ
-put at p n q = if q == p then n else at q
 
 -- the processors below this one have come to the second places
 abbrev pub mixed : (from to : ℕ → ℕ) → ℕ → ℕ → ℕ

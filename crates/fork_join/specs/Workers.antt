@@ -12,6 +12,7 @@ use Rattle.sync_plan.specs.declared.plan.Plan.{Plan}
 use Rattle.spmd_model.specs.Deeds.{owned_by}
 use Rattle.spmd_model.specs.declared.style.Style.TheVariants.{Arrive}
 use Rattle.spmd_model.specs.PlanProtocols.{printed_by, registers_by}
+use Rattle.spmd_model.specs.Lawful.{put}
 use Rattle.instance_runs.specs.Executors.{CanExecute, executor_output, executor_room, executor_tree}
 use Rattle.turns.specs.CounterTurns.{counter_room, CounterTurn, posts, awaits, begins, is_counter_inside, counter_deeds, counter_turns, works}
 use Rattle.instance_runs.specs.declared.execute.Executor.{Executor}
@@ -19,7 +20,7 @@ use Rattle.turns.specs.Turns.{Turn, turn_deeds}
 use Rattle.crossbeam_utils.specs.declared.cache_padded.CachePadded.{CachePadded}
 use Rattle.crossbeam_utils.specs.Padded.{padded_value}
 use Rattle.fork_join.specs.Cursors.{IsCursor, IsShut, cursor_left, cursor_plan, cursor_processor, cursor_tree, cursor_turns}
-use Rattle.fork_join.specs.Joins.{Goes, HoldsOwn, all_deeds, begun, deeds_begun, joined, protocol, put}
+use Rattle.fork_join.specs.Joins.{Goes, HoldsOwn, all_deeds, begun, deeds_begun, joined, protocol}
 use Rattle.fork_join.specs.StoreLists.{AreKept, cells_of, entries_of}
 use Rattle.fork_join.specs.declared.cursor.Cursor.{Cursor}
 use Rattle.fork_join.specs.declared.overlay.Overlay.{Overlay}

@@ -1,5 +1,5 @@
 -- Lists one behind another, and their first elements.
-use Rattle.std.proofs.Common.{◌≡◌, ℕ, ◌+◌, ◌<◌, ◌≤◌, List, [], ◌∷◌, ◌++◌, length, length-append, get_or, take, ap, sym, ◌∙◌, subst, inl, inr, add-one, append_assoc, take_all, arith}
+use Rattle.std.proofs.Common.{◌≡◌, ℕ, suc, ◌+◌, ◌<◌, ◌≤◌, List, [], ◌∷◌, ◌++◌, length, length-append, get_or, take, ap, sym, ◌∙◌, subst, inl, inr, add-one, zero-add, append_assoc, take_all, arith}
 use Rattle.std.proofs.lemmas.Bool.{cases_lt}
 use Rattle.std.proofs.lemmas.List.{get_or_append_left, get_or_at}
 
@@ -22,6 +22,11 @@ take-cons xs rest first i is = ap (take (i + 1)) is ∙ ap (λ n. take n (first 
 -- the front is the whole list, where it is long enough for the rest
 pub take-cons_all : {X : Type 0} (xs rest : List X) (first : X) (i : ℕ) → xs ≡ first ∷ rest → length rest ≤ i → take (i + 1) xs ≡ xs
 take-cons_all xs rest first i is le = let n = ap length is in take_all (i + 1) xs (omega (arith, n, le))
+
+-- the front is the whole first list and some of the second
+pub take-behind : {X : Type 0} (xs ys : List X) (k : ℕ) → take (length xs + k) (xs ++ ys) ≡ xs ++ take k ys
+take-behind [] ys k = ap (λ n. take n ys) (zero-add k)
+take-behind (x ∷ xs) ys k = let more : length (x ∷ xs) + k ≡ suc (length xs + k) = omega arith in ap (λ n. take n (x ∷ (xs ++ ys))) more ∙ ap (λ l. x ∷ l) (take-behind xs ys k)
 
 -- what holds of each element by its place, and of one that is pushed, holds of each of all
 pub pushed_all : {X : Type 0} (P : ℕ → X → Type 0) (xs ys : List X) (x : X) (n : ℕ) → length xs ≡ n → ys ≡ xs ++ x ∷ [] → ((p : ℕ) (d : X) → p < length xs → P p (get_or xs p d)) → P n x →

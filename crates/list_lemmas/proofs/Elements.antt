@@ -1,8 +1,8 @@
 -- What is among the elements of a list.
-use Rattle.std.proofs.Common.{◌≡◌, ℕ, zero, suc, ◌<◌, Bool, true, false, cond, Some, List, [], ◌∷◌, length, get_or, map, ap, sym, ◌∙◌, subst, arith}
+use Rattle.std.proofs.Common.{◌≡◌, ℕ, zero, suc, ◌<◌, Bool, true, false, cond, Some, List, [], ◌∷◌, length, get_or, map, take, refl, ap, sym, ◌∙◌, subst, inl, inr, arith}
 use Rattle.std.specs.List.{Contains, filter, flat_map, slice_get}
 use Rattle.std.proofs.lemmas.List.{length-map, get_or-map}
-use Rattle.std.proofs.lemmas.List.Elements.{All-filter, All-contains, All-contains_itself, Contains-append_left, Contains-append_right, filter_passes}
+use Rattle.std.proofs.lemmas.List.Elements.{All-filter, All-contains, All-contains_itself, All-take, Contains-append_cases, Contains-append_left, Contains-append_right, filter_passes}
 use Rattle.std.proofs.lemmas.Option.{get_or_from_slice_get, slice_get_within}
 
 -- what stands at a place
@@ -18,6 +18,23 @@ pub Contains-flat_map : {X Y : Type 0} (f : X → List Y) (xs : List X) (x : X) 
 Contains-flat_map f [] x y (k, lt, e) there = absurd (omega (arith, lt))
 Contains-flat_map f (z ∷ xs) x y (zero, lt, e) there = Contains-append_left (f z) (flat_map f xs) y (subst (λ w. Contains (f w) y) (sym e) there)
 Contains-flat_map f (z ∷ xs) x y (suc k, lt, e) there = Contains-append_right (f z) (flat_map f xs) y (Contains-flat_map f xs x y (k, omega (arith, lt), e) there)
+
+-- an element of what the elements give is of what one of them gives
+pub Contains-flat_map_cases : {X Y : Type 0} (f : X → List Y) (xs : List X) (y : Y) → Contains (flat_map f xs) y → (x : X) × Contains xs x × Contains (f x) y
+Contains-flat_map_cases f [] y (k, lt, e) = absurd (omega (arith, lt))
+Contains-flat_map_cases f (x ∷ xs) y among = elim (Contains-append_cases (f x) (flat_map f xs) y among) [
+  | inl here ↦ (x, (0, omega arith, refl), here)
+  | inr later ↦ let r = Contains-flat_map_cases f xs y later in (r.0, (suc r.1.0, omega (arith, r.1.1), r.1.2), r.2)
+]
+
+-- the element of a list of one
+pub Contains-one : {X : Type 0} (x y : X) → Contains (x ∷ []) y → x ≡ y
+Contains-one x y (zero, lt, e) = e
+Contains-one x y (suc k, lt, e) = absurd (omega (arith, lt))
+
+-- an element of the front
+pub Contains-take : {X : Type 0} (n : ℕ) (xs : List X) (x : X) → Contains (take n xs) x → Contains xs x
+Contains-take n xs x h = All-contains (Contains xs) (take n xs) x (All-take (Contains xs) n xs (All-contains_itself xs)) h
 
 -- an element that passes is in the filtered list
 pub Contains-filter : {X : Type 0} (test : X → Bool) (xs : List X) (x : X) → Contains xs x → test x ≡ true → Contains (filter test xs) x

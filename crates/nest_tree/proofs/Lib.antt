@@ -7,3 +7,4 @@ pub mod Wide
 pub mod Works
 pub mod Good
 pub mod FirstLimits
+pub mod Crosses

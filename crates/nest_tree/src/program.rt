@@ -15,7 +15,9 @@ pub struct Draft {
     pub variables: Vec<Variable>,
 }
 
-/// A program, well formed and within its limits: its statements, its named constants and its variables, the latter two numbered from 1 as they stand here. Variables stand in the order of their cells.
+/// A program, well formed and within its limits: its statements, its named constants and its
+/// variables, the latter two numbered from 1 as they stand here. Variables stand in the order of
+/// their cells.
 #[derive(Drop)]
 pub struct Program {
     pub items: Vec<Item>,

@@ -42,7 +42,8 @@ pub fn check<R: Threads + Sync>(
 }
 
 // The first failure of a plan whose shape is right but for certificates too many, where this one
-// stands between its shape and its obligations. Of these no more are made than it takes to find the first one without a certificate.
+// stands between its shape and its obligations. Of these no more are made than it takes to find the
+// first one without a certificate.
 pub(crate) fn failure<R: Threads + Sync>(
     rt: &R,
     alloc: Global,

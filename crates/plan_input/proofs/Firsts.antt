@@ -3,6 +3,7 @@ use Rattle.std.proofs.Common.{◌≡◌, ◌≢◌, ◌∙◌, ℕ, ℤ, Bool, t
 use Rattle.std.specs.Prelude.{IfSome}
 use Rattle.std.specs.Option.{option_map, option_or}
 use Rattle.plan_checker.proofs.Certified.{unmapped}
+use Rattle.list_lemmas.proofs.Options.{or_none}
 use Rattle.f77_lines.specs.Columns.{lines_of}
 use Rattle.f77_lines.specs.Listing as listing
 use Rattle.f77_lines.specs.Statements.{Entry}
@@ -32,10 +33,6 @@ use Rattle.plan_input.specs.declared.stop.Stop.TheVariants.{Limit as Limited, Li
 pub or_some : {A : Type 0} (a b : Option A) (x : A) → a ≡ Some x → option_or a b ≡ Some x
 or_some None b x e = absurd (cc)
 or_some (Some y) b x e = e
-
-pub or_none : {A : Type 0} (a b : Option A) → a ≡ None → option_or a b ≡ b
-or_none None b e = refl
-or_none (Some y) b e = absurd (cc)
 
 -- ---- the lines
 

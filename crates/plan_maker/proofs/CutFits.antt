@@ -6,6 +6,7 @@ use Rattle.std.specs.Option.{option_or}
 use Rattle.std.proofs.lemmas.Bool.{and_from, and_left, and_parts, and_right, eq-eqb, eqb-true, lt-ltb, ne_eqb, not_from_false, or_left, or_parts, or_right}
 use Rattle.std.proofs.lemmas.List.Folds.{list_all-append}
 use Rattle.std.proofs.lemmas.Option.{get_or_from_slice_get}
+use Rattle.list_lemmas.proofs.Options.{or_none}
 use Rattle.nest_tree.specs.Prints.{has_print, have_print}
 use Rattle.nest_tree.specs.Tree.{Head, Statement, Statements, do_loop, work, continue, done, next, Tree}
 use Rattle.nest_tree.specs.WellFormed.{IsWellFormed, Scope, are_good_statements, is_good_statement, loops_in, loops_of, scope_of}
@@ -88,10 +89,6 @@ IsTriedIn dealt owned s = (n : ℕ) (t : Tried) (body : Statements) → dealt n 
 abbrev pub AreTried : (ℕ → Option Tried) → (ℕ → List ℕ) → Statements → Type 0
 AreTried dealt owned ss = (n : ℕ) (t : Tried) (body : Statements) → dealt n ≡ Some t → body_among n ss ≡ Some body → IsMadeOf t (owned n) body
 
-none-or : {X : Type 0} (a b : Option X) → a ≡ None → option_or a b ≡ b
-none-or None b e = refl
-none-or (Some x) b e = absurd (cc)
-
 not-within : (scope : Scope) (around : List ℕ) (first n : ℕ) (s : Statement) → is_good_statement scope around first s ≡ true → first + loops_in s ≤ n → body_in n s ≡ None
 not-within scope around first n s good far = by (body_in n s) refl
   where
@@ -108,7 +105,7 @@ module _ (dealt : ℕ → Option Tried) (owned : ℕ → List ℕ) (scope : Scop
       let parts = and_parts (is_good_statement scope around first s) (are_good_statements scope around (first + loops_in s) rest) good in
       λ n t body is found.
       let r = found_within scope around (first + loops_in s) n rest body parts.1 found in
-      h n t body is (none-or (body_in n s) (body_among n rest) (not-within scope around first n s parts.0 r.0) ∙ found)
+      h n t body is (or_none (body_in n s) (body_among n rest) (not-within scope around first n s parts.0 r.0) ∙ found)
 
   tried-here : (head : Head) (body : Statements) (t : Tried) → IsTriedIn dealt owned (do_loop head body) → dealt head.number ≡ Some t → IsMadeOf t (owned head.number) body
   tried-here head body t h is = h head.number t body is (ap (λ b. if b then Some body else body_among head.number body) (eq-eqb head.number head.number refl))

@@ -1,7 +1,8 @@
 -- Systems one behind another: which are refuted, and the first that is kept.
-use Rattle.std.proofs.Common.{◌≡◌, ℕ, zero, suc, ◌+◌, ◌<◌, List, [], ◌∷◌, ◌++◌, take, drop, get_or, length, map, refl, ap, sym, ◌∙◌, subst, arith}
+use Rattle.std.proofs.Common.{◌≡◌, ℕ, zero, suc, ◌+◌, ◌<◌, List, [], ◌∷◌, ◌++◌, take, drop, get_or, length, map, refl, ap, sym, ◌∙◌, subst}
 use Rattle.std.specs.Prelude.{slice_get, Some}
 use Rattle.std.specs.List.{flat_map}
+use Rattle.list_lemmas.proofs.Appending.{take-behind}
 use Rattle.list_lemmas.proofs.Gets.{get-front, get-behind}
 use Rattle.farkas_cert.specs.declared.certificate.Certificate.{Certificate}
 use Rattle.farkas_cert.specs.Good.{IsGood}
@@ -16,10 +17,6 @@ use Rattle.plan_maker.specs.declared.cause.Cause.{Cause}
 
 pub refuted-append : (qs rs : List Asked) (cs ds : List Certificate) → AreRefuted qs cs → AreRefuted rs ds → AreRefuted (qs ++ rs) (cs ++ ds)
 refuted-append qs rs cs ds h k = AllZip-append (λ (q : Asked) (c : Certificate). IsGood q.task.system c) qs rs cs ds h k
-
-take-behind : {X : Type 0} (xs ys : List X) (n : ℕ) → take (length xs + n) (xs ++ ys) ≡ xs ++ take n ys
-take-behind [] ys n = let e : 0 + n ≡ n = omega arith in ap (λ k. take k ys) e
-take-behind (x ∷ xs) ys n = let e : suc (length xs) + n ≡ suc (length xs + n) = omega arith in ap (λ k. take k (x ∷ (xs ++ ys))) e ∙ ap (λ zs. x ∷ zs) (take-behind xs ys n)
 
 take-front : {X : Type 0} (xs ys : List X) (n : ℕ) (x : X) → slice_get xs n ≡ Some x → take n (xs ++ ys) ≡ take n xs
 take-front [] ys n x at = absurd (cc)

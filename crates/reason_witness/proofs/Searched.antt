@@ -1,11 +1,11 @@
 -- What a search among some obligations says of more, and of all.
-use Rattle.std.proofs.Common.{◌≡◌, ℕ, zero, suc, ◌+◌, ◌-◌, ◌<◌, ◌≤◌, ◌⊎◌, nat_le, Bool, true, false, IsTrue, List, [], ◌∷◌, ◌++◌, Option, Some, None, Result, Ok, Err, take, drop, length, get_or, refl, ap, sym, ◌∙◌, subst, inl, inr, arith}
+use Rattle.std.proofs.Common.{◌≡◌, ℕ, zero, suc, ◌+◌, ◌-◌, ◌<◌, ◌≤◌, ◌⊎◌, nat_le, Bool, true, false, IsTrue, List, [], ◌∷◌, ◌++◌, Option, Some, None, Result, Ok, Err, take, length, get_or, refl, ap, sym, ◌∙◌, subst, inl, inr, arith}
 use Rattle.std.specs.Option.{is_some}
 use Rattle.std.specs.Result.{IfOk}
 use Rattle.std.specs.List.{Contains, flat_map}
 use Rattle.std.proofs.lemmas.Bool.{cases_Bool, leb-false, leb-true}
-use Rattle.std.proofs.lemmas.List.{take-append-drop}
-use Rattle.std.proofs.lemmas.List.Elements.{Contains-append_cases, Contains-append_left, Contains-push_cases}
+use Rattle.std.proofs.lemmas.List.Elements.{Contains-append_cases, Contains-push_cases}
+use Rattle.list_lemmas.proofs.Elements.{Contains-take}
 use Rattle.nest_tree.specs.Tree.{Tree}
 use Rattle.sync_plan.specs.declared.plan.Plan.{Plan}
 use Rattle.comm_system.specs.Obligations.{Task, numbered, numbered_from, obligations_of, tasks_of}
@@ -18,19 +18,6 @@ use Rattle.reason_witness.specs.Findings.{AreCertified, AreCertifiedUnder, IsCer
 use Rattle.reason_witness.specs.declared.found.Found.{Found}
 use Rattle.reason_witness.specs.declared.found.Wanted.{Wanted}
 use Rattle.reason_witness.specs.declared.found.Wanted.TheVariants.{First, Named, Number}
-
--- ---- lists
-
--- an element of a flat_map is one of what some element gives
-pub from_flat_map : {X Y : Type 0} (f : X → List Y) (xs : List X) (y : Y) → Contains (flat_map f xs) y → (x : X) × Contains xs x × Contains (f x) y
-from_flat_map f [] y c = absurd (contains_nothing y c)
-from_flat_map f (x ∷ xs) y c = elim (Contains-append_cases (f x) (flat_map f xs) y c) [
-  | inl here ↦ (x, contains_here x xs, here)
-  | inr later ↦ let r = from_flat_map f xs y later in (r.0, contains_later x r.0 xs r.1, r.2)
-]
-
-pub from_one : {X : Type 0} (x y : X) → Contains (x ∷ []) y → x ≡ y
-from_one x y c = elim (contains_cases x y [] c) [ inl same ↦ same | inr none ↦ absurd (contains_nothing y none) ]
 
 -- ---- what is found
 
@@ -97,9 +84,6 @@ in_first m ts o c low =
     let lt : r.0 < m = omega (arith, r.3, low) in
     (r.0, long_taken m r.0 (numbered_from 1 ts) lt r.1, get_taken m r.0 (numbered_from 1 ts) o lt ∙ r.2)
 
-pub in_taken : {X : Type 0} (n : ℕ) (xs : List X) (x : X) → Contains (take n xs) x → Contains xs x
-in_taken n xs x c = subst (λ ys. Contains ys x) (take-append-drop n xs) (Contains-append_left (take n xs) (drop n xs) x c)
-
 pub unnumbered : (n : ℕ) (ts : List Task) (o : Obligation) → Contains (numbered_from n ts) o → Contains ts (task_of o)
 unnumbered n [] o c = absurd (contains_nothing o c)
 unnumbered n (t ∷ ts) o c = elim (contains_cases (numbered n t) o (numbered_from (suc n) ts) c) [
@@ -155,7 +139,7 @@ under_none is_whole ts wanted (Some f) none h = absurd (let no : true ≡ false 
 pub listed_in : (tree : Tree) (plan : Plan) (most : ℕ) (l : Listed) → l ≡ groups_of tree plan most → (o : Obligation) → Contains (flat_map (obligations_in tree plan) l.groups) o → Contains (obligations_of tree plan) o
 listed_in tree plan most l is o c =
     let first = ap (λ (m : Listed). flat_map (obligations_in tree plan) m.groups) is ∙ groups_first tree plan most in
-    in_taken ((groups_of tree plan most).next - 1) (obligations_of tree plan) o (subst (λ os. Contains os o) first c)
+    Contains-take ((groups_of tree plan most).next - 1) (obligations_of tree plan) o (subst (λ os. Contains os o) first c)
 
 -- and an obligation stands there whose number is no greater than the one up to which they go, or each does where all are listed
 pub reached : (tree : Tree) (plan : Plan) (most : ℕ) (l : Listed) → l ≡ groups_of tree plan most → (o : Obligation) → Contains (obligations_of tree plan) o → (o.number ≤ most) ⊎ (l.next ≤ most) → Contains (flat_map (obligations_in tree plan) l.groups) o

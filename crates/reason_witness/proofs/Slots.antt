@@ -2,7 +2,7 @@
 use Rattle.std.proofs.Common.{◌≡◌, ℕ, suc, List, [], ◌∷◌, ◌++◌, refl, sym, subst, inl, inr}
 use Rattle.std.specs.List.{AllZip, Contains, flat_map}
 use Rattle.std.proofs.lemmas.List.Elements.{Contains-append_cases, Contains-append_left, Contains-append_right, Contains-push_cases}
-use Rattle.list_lemmas.proofs.Elements.{Contains-flat_map as in_flat_map}
+use Rattle.list_lemmas.proofs.Elements.{Contains-flat_map as in_flat_map, Contains-flat_map_cases}
 use Rattle.farkas_cert.specs.Good.{IsGood}
 use Rattle.farkas_cert.specs.declared.certificate.Certificate.{Certificate}
 use Rattle.nest_tree.specs.Tree.{Tree}
@@ -18,7 +18,6 @@ use Rattle.plan_maker.specs.Judged.{task_of}
 use Rattle.reason_witness.specs.Findings.{AreCertifiedUnder, IsCertified}
 use Rattle.reason_witness.specs.Plans.{tasks_at, with_kinds}
 use Rattle.reason_witness.specs.declared.found.Wanted.{Wanted}
-use Rattle.reason_witness.proofs.Searched.{from_flat_map}
 
 certified_zip : (n : ℕ) (ts : List Task) (cs : List Certificate) (k : Task) → AllZip (λ (o : Obligation) c. IsGood o.system c) (numbered_from n ts) cs → Contains ts k → IsCertified k.system
 certified_zip n [] cs k all c = absurd (contains_nothing k c)
@@ -105,13 +104,13 @@ all_under tree plan kinds wanted accepted all o there sought =
     elim (Contains-append_cases (trips ++ slots) paths k there) [
       | inl front ↦ elim (Contains-append_cases trips slots k front) [
         | inl among ↦
-            let r = from_flat_map (trips_tasks tree (with_kinds plan kinds)) phases k among in
+            let r = Contains-flat_map_cases (trips_tasks tree (with_kinds plan kinds)) phases k among in
             own_trips tree plan k r.0 accepted r.1 (subst (λ ts. Contains ts k) (same_trips tree plan kinds r.0) r.2)
         | inr among ↦
-            let r = from_flat_map tasks (slots_of phases) k among in
+            let r = Contains-flat_map_cases tasks (slots_of phases) k among in
             all r.0 r.1 o (subst (λ ts. Contains ts k) (same_tasks tree plan kinds r.0 (slot_signature plan.version kinds phases r.0)) r.2) sought
       ]
       | inr among ↦
-          let r = from_flat_map (paths_tasks tree (with_kinds plan kinds)) phases k among in
+          let r = Contains-flat_map_cases (paths_tasks tree (with_kinds plan kinds)) phases k among in
           own_paths tree plan k r.0 accepted r.1 (subst (λ ts. Contains ts k) (same_paths tree plan kinds r.0) r.2)
     ]

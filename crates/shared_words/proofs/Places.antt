@@ -1,26 +1,16 @@
 -- Places in the acts, and what the counters are there.
-use Rattle.std.proofs.Common.{◌≡◌, ℕ, zero, suc, ◌+◌, Bool, true, false, true≢false, eqb, cond, List, [], ◌∷◌, ◌++◌, take, drop, fold, Some, refl, sym, ◌∙◌, ap, subst, arith}
+use Rattle.std.proofs.Common.{◌≡◌, ℕ, zero, suc, ◌+◌, Bool, true, false, true≢false, cond, List, [], ◌∷◌, ◌++◌, take, drop, fold, Some, refl, sym, ◌∙◌, ap, subst, arith}
 use Rattle.std.specs.Prelude.{slice_get}
 use Rattle.std.proofs.Math.Seq.{drop-nil}
-use Rattle.std.proofs.lemmas.Bool.{eq-eqb, ne_eqb}
 use Rattle.std.proofs.lemmas.List.{take_more}
 use Rattle.std.proofs.lemmas.List.Sums.{fold-append}
 use Rattle.std.proofs.lemmas.Option.{slice_get_within, get_or_from_slice_get}
 use Rattle.spmd_model.specs.Timelines.{Word}
 use Rattle.spmd_model.specs.Acts.{Act, post, await, load, store, add, print}
-use Rattle.spmd_model.specs.Lawful.{Moves}
+use Rattle.spmd_model.specs.Lawful.{Moves, put}
 use Rattle.spmd_model.specs.Protocols.{Protocol, act_at, shown, shown_at, arrived, arrivals_at, is_gathered, is_passed, passed_first}
+use Rattle.spmd_model.proofs.Places.{put_moves}
 use Rattle.shared_words.specs.Places.{behind, row_first, behind_row, settled_at}
-
--- places of which p's is another
-abbrev pub put : (ℕ → ℕ) → ℕ → ℕ → ℕ → ℕ
-put at p n q = cond (eqb q p) n (at q)
-
-pub put_moves : (at : ℕ → ℕ) (p n : ℕ) → Moves at (put at p n) p n
-put_moves at p n = record {
-  here = ap (λ b. cond b n (at p)) (eq-eqb p p refl);
-  others = λ q ne. ap (λ b. cond b n (at q)) (ne_eqb q p ne);
-}
 
 pub put_on : (at : ℕ → ℕ) (p n k : ℕ) → Moves (put at p n) (put at p k) p k
 put_on at p n k = record {

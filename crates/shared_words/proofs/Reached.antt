@@ -14,7 +14,7 @@ use Rattle.spmd_model.specs.States.{first_state}
 use Rattle.spmd_model.specs.Runs.{run_of, stepped}
 use Rattle.spmd_model.specs.Sequential.{registers_at, stored_at, value_at}
 use Rattle.spmd_model.specs.Ordered.{IsOrderedMachine, IsSound}
-use Rattle.spmd_model.specs.Lawful.{IsLawful, acts_in_front, counter_at, is_done, last_value_from, last_value_where, printed_at, stores_to}
+use Rattle.spmd_model.specs.Lawful.{IsLawful, acts_in_front, counter_at, is_done, last_value_from, last_value_where, printed_at, stores_to, put}
 use Rattle.spmd_model.specs.Reached.{IsPossibleAt, memory_by, state_at}
 use Rattle.spmd_model.proofs.ActLaws as law
 use Rattle.spmd_model.proofs.ActLists.{act_of_moment, found}
@@ -22,8 +22,8 @@ use Rattle.spmd_model.proofs.MomentActs.{IsAwaitIn, post_first, tells}
 use Rattle.spmd_model.proofs.StateAt.{first_at, stays_lawful, steps_to, same_state}
 use Rattle.spmd_model.proofs.Unstuck.{passed_post}
 use Rattle.spmd_model.proofs.LastValues.{stands_later}
+use Rattle.spmd_model.proofs.Places.{put_moves}
 use Rattle.shared_words.specs.Places.{total}
-use Rattle.shared_words.proofs.Places.{put, put_moves}
 use Rattle.shared_words.proofs.Totals.{total_put}
 
 -- ---- states at places that are alike

@@ -6,7 +6,7 @@ use Rattle.std.proofs.lemmas.List.{take-set-le}
 use Rattle.nest_tree.specs.Tree.{Tree}
 use Rattle.sync_plan.specs.declared.plan.Plan.{Plan}
 use Rattle.spmd_model.specs.Cells.{plus}
-use Rattle.spmd_model.specs.Lawful.{Moves}
+use Rattle.spmd_model.specs.Lawful.{Moves, put}
 use Rattle.spmd_model.specs.Machines.{machine_by}
 use Rattle.spmd_model.specs.declared.style.Style.{Style}
 use Rattle.spmd_model.specs.Reached.{IsPossibleAt, memory_by}
@@ -17,10 +17,11 @@ use Rattle.spmd_model.specs.Acts.{Act, post, await, load, store, add, print}
 use Rattle.spmd_model.specs.Laws.{Laws}
 use Rattle.spmd_model.specs.Protocols.{Protocol, act_at, arrivals_at, is_arrival, is_passed}
 use Rattle.spmd_model.specs.PlanProtocols.{AreOfStateBy, protocol_by}
+use Rattle.spmd_model.proofs.Places.{put_moves}
 use Rattle.shared_words.specs.Places.{behind, behind_row, row_first, settled_at}
 use Rattle.shared_words.specs.Runs.{AreStepsOf, AreWordsOf, behind_steps}
 use Rattle.shared_words.specs.Words.{AreShown, arrival_word, cells_in, word_of, word_value}
-use Rattle.shared_words.proofs.Places.{put, put_moves, put_on, over_passed, over_row, arrivals_next}
+use Rattle.shared_words.proofs.Places.{put_on, over_passed, over_row, arrivals_next}
 use Rattle.shared_words.proofs.WordSteps.{all_come, cell_set, gathered_await, value_in}
 
 -- places that move alike are alike

@@ -9,10 +9,10 @@ use Rattle.shared_words.specs.declared.roles.Role.{Role}
 use Rattle.shared_words.specs.declared.roles.Role.TheVariants.{Main, Cell, Spent, Over}
 use Rattle.shared_words.specs.declared.roles.Stage.{Stage}
 use Rattle.shared_words.specs.declared.roles.Stage.TheVariants.{NotOut, Out, Ended}
-use Rattle.spmd_model.specs.Lawful.{Moves}
+use Rattle.spmd_model.specs.Lawful.{Moves, put}
 use Rattle.spmd_model.specs.Protocols.{Protocol}
+use Rattle.spmd_model.proofs.Places.{put_moves}
 use Rattle.shared_words.specs.Seats.{Says, Rests, AreSeated}
-use Rattle.shared_words.proofs.Places.{put, put_moves}
 use Rattle.shared_words.proofs.Stages.{stage_set}
 
 module _ (m : Protocol) where

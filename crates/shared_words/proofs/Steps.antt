@@ -7,6 +7,8 @@ use Rattle.spmd_model.specs.Timelines.{Word, counter}
 use Rattle.spmd_model.specs.Acts.{Act, post, await, load, store, add}
 use Rattle.spmd_model.specs.Protocols.{Protocol, act_at, arrivals_at, is_arrival}
 use Rattle.spmd_model.specs.Laws.{Laws}
+use Rattle.spmd_model.specs.Lawful.{put}
+use Rattle.spmd_model.proofs.Places.{put_moves}
 use Rattle.shared_words.specs.declared.roles.Role.{Role}
 use Rattle.shared_words.specs.Places.{behind, behind_row, total}
 use Rattle.shared_words.specs.Words.{AreShown, word_value, word_of, arrival_word}
@@ -14,7 +16,6 @@ use Rattle.shared_words.specs.Shown.{AreOne}
 use Rattle.shared_words.specs.Steps.{ComesTo, GoesOn, IsSeatAt}
 use Rattle.shared_words.proofs.Totals.{total_most}
 use Rattle.shared_words.proofs.WordSteps.{load_gives, by_load, by_store, by_add, by_post, by_poll, by_arrive, by_row}
-use Rattle.shared_words.proofs.Places.{put, put_moves}
 use Rattle.shared_words.proofs.Seats.{moves_on}
 
 -- the same places

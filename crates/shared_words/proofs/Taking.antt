@@ -10,6 +10,8 @@ use Rattle.atomic_table.proofs.Lists.{at_set, set_else}
 use Rattle.spmd_model.specs.Timelines.{counter}
 use Rattle.spmd_model.specs.Protocols.{Protocol, arrivals_at}
 use Rattle.spmd_model.specs.Laws.{Laws}
+use Rattle.spmd_model.specs.Lawful.{put}
+use Rattle.spmd_model.proofs.Places.{put_moves}
 use Rattle.shared_words.specs.declared.roles.Role.{Role}
 use Rattle.shared_words.specs.declared.roles.Role.TheVariants.{Main, Cell, Spent, Over}
 use Rattle.shared_words.specs.declared.roles.Stage.{Stage}
@@ -20,7 +22,7 @@ use Rattle.shared_words.specs.Seats.{Says, Rests}
 use Rattle.shared_words.specs.Shown.{AreOne}
 use Rattle.shared_words.proofs.Totals.{total_zero}
 use Rattle.shared_words.proofs.WordSteps.{in_line, none_between, passed_between}
-use Rattle.shared_words.proofs.Places.{put, put_moves, shown_settled, arrivals_settled}
+use Rattle.shared_words.proofs.Places.{shown_settled, arrivals_settled}
 use Rattle.shared_words.proofs.Stages.{stage_set, stage_here, at_new}
 use Rattle.shared_words.proofs.Seats.{says_staged}
 

@@ -8,13 +8,14 @@ use Rattle.spmd_model.specs.Timelines.{Word, counter, signal}
 use Rattle.spmd_model.specs.Acts.{Act, post, await, load, store, add, print}
 use Rattle.nest_model.specs.Memory.{cell_value}
 use Rattle.spmd_model.specs.Cells.{plus}
-use Rattle.spmd_model.specs.Lawful.{IsPosted, Moves}
+use Rattle.spmd_model.specs.Lawful.{IsPosted, Moves, put}
 use Rattle.spmd_model.specs.Protocols.{Protocol, act_at, arrived, arrivals_at, is_arrival, is_gathered, is_passed, shown, shown_at}
 use Rattle.spmd_model.specs.Laws.{Laws}
+use Rattle.spmd_model.proofs.Places.{put_moves}
 use Rattle.shared_words.specs.Places.{behind, row_first, behind_row, passed_at, settled_at, total}
 use Rattle.shared_words.specs.Words.{place_in_line, word_of, arrival_word, word_value, cells_in, AreShown, AreGathered, AreAwaited}
 use Rattle.shared_words.proofs.Totals.{total_same, total_put, total_all}
-use Rattle.shared_words.proofs.Places.{put, put_moves, put_on, over_passed, over_row, shown_behind, shown_row, arrivals_next, arrivals_behind, arrivals_row}
+use Rattle.shared_words.proofs.Places.{put_on, over_passed, over_row, shown_behind, shown_row, arrivals_next, arrivals_behind, arrivals_row}
 
 pub passed_between : (m : Protocol) (p k : ℕ) → (passed_at m p k ≤ arrivals_at m p k) × (arrivals_at m p k ≤ passed_at m p k + 1)
 passed_between m p k = go (is_gathered m (act_at m p k))

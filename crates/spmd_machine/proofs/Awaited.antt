@@ -5,7 +5,7 @@ use Rattle.std.specs.List.{flat_map}
 use Rattle.std.proofs.lemmas.List.{get_or-map}
 use Rattle.nest_walk.specs.Tables.{entries}
 use Rattle.spmd_model.specs.Deeds.{Deed, awaiting}
-use Rattle.spmd_model.specs.Timelines.{Word, counter, signal}
+use Rattle.spmd_model.specs.Timelines.{Word}
 use Rattle.spmd_model.specs.Acts.{await, act_at}
 use Rattle.spmd_model.proofs.Counters.{awaited_post}
 use Rattle.spmd_model.proofs.MachineOrder.{sound_by}
@@ -14,13 +14,13 @@ use Rattle.turns.specs.Turns.{Turn, waits, turn_deeds}
 use Rattle.turns.specs.TurnsLeft.{turns_left, turns_plan, turns_processor, turns_tree}
 use Rattle.spmd_machine.specs.Machines.{IsMachine, model_of, plan_in, style_in, tree_in}
 use Rattle.spmd_machine.specs.Processors.{IsKept, left_of, state_of}
-use Rattle.spmd_machine.specs.declared.machine.Machine.{Machine}
+use Rattle.spmd_machine.specs.declared.parts.Parts.{Parts}
 use Rattle.spmd_machine.specs.declared.processor.Processor.{Processor}
 use Rattle.spmd_machine.proofs.Kept.{left_idle, wait_idle}
 use Rattle.spmd_machine.proofs.Ready.{kept_here, worker_here}
 use Rattle.spmd_machine.proofs.Steps.{next_from}
 
-module _ (m : Machine) (ready : IsMachine m) (p : ℕ) (x : Processor) (lt : p < length m.processors.items) (read : x ≡ get_or m.processors.items p x) (word : Word) (on wanted : ℕ) (rest : List Turn) (next : turns_left x.turns ≡ waits word on wanted ∷ rest) where
+module _ (m : Parts) (ready : IsMachine m) (p : ℕ) (x : Processor) (lt : p < length m.processors.items) (read : x ≡ get_or m.processors.items p x) (word : Word) (on wanted : ℕ) (rest : List Turn) (next : turns_left x.turns ≡ waits word on wanted ∷ rest) where
   kept : IsKept (style_in m) (tree_in m) (plan_in m) (entries m.table) p x
   kept = kept_here m ready p x x lt read
 

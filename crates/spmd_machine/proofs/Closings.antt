@@ -24,7 +24,7 @@ use Rattle.turns.proofs.OwnPlaces.{scalar_below, shared_there}
 use Rattle.spmd_machine.specs.Machines.{ComesNext, IsMachine, StepsTo, model_of, plan_in, shared_in, shown, style_in, tree_in}
 use Rattle.spmd_machine.specs.Processors.{IsFoundNext, IsBegun, IsClosing, IsKept, PassesTurn, all_of, deeds_left, is_turn_inside, left_of, memory_of}
 use Rattle.spmd_machine.specs.declared.answer.StepAnswer.TheVariants.{Stepped}
-use Rattle.spmd_machine.specs.declared.machine.Machine.{Machine}
+use Rattle.spmd_machine.specs.declared.parts.Parts.{Parts}
 use Rattle.spmd_machine.specs.declared.processor.Processor.{Processor}
 use Rattle.spmd_machine.proofs.Kept.{first_is, passed_kept, room_passed, same_room}
 use Rattle.spmd_machine.proofs.LoadSteps.{have_own}
@@ -34,7 +34,7 @@ use Rattle.spmd_machine.proofs.Ready.{kept_here, next_here, steps, worker_here}
 use Rattle.spmd_machine.proofs.Steps.{registers_read, same_counters, same_signals}
 use Rattle.spmd_machine.proofs.Suffixes.{suffix_rest}
 
-module _ (m : Machine) (ready : IsMachine m) (p : ℕ) (x : Processor) (lt : p < length m.processors.items) (read : x ≡ get_or m.processors.items p x) (k : ℕ) (next : ComesNext m p (Close k)) where
+module _ (m : Parts) (ready : IsMachine m) (p : ℕ) (x : Processor) (lt : p < length m.processors.items) (read : x ≡ get_or m.processors.items p x) (k : ℕ) (next : ComesNext m p (Close k)) where
   kept : IsKept (style_in m) (tree_in m) (plan_in m) (entries m.table) p x
   kept = kept_here m ready p x x lt read
 

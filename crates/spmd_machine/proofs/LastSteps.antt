@@ -49,7 +49,7 @@ use Rattle.spmd_machine.specs.Processors.{IsKept, PassesTurn, left_of, memory_of
 use Rattle.turns.specs.Turns.{Turn, runs, turn_room}
 use Rattle.turns.specs.TurnsLeft.{turns_left, turns_path}
 use Rattle.spmd_machine.specs.declared.answer.StepAnswer.TheVariants.{Stepped}
-use Rattle.spmd_machine.specs.declared.machine.Machine.{Machine}
+use Rattle.spmd_machine.specs.declared.parts.Parts.{Parts}
 use Rattle.spmd_machine.specs.declared.processor.Processor.{Processor}
 use Rattle.turns.specs.declared.turns.Next.TheVariants.{Work as Working}
 use Rattle.spmd_machine.proofs.Kept.{first_is, passed_kept, picked, room_passed}
@@ -60,7 +60,7 @@ use Rattle.spmd_machine.proofs.OwnMemory.{same_memory}
 use Rattle.spmd_machine.proofs.Steps.{registers_read, same_counters, same_signals}
 use Rattle.spmd_machine.proofs.Works as here
 
-module _ (m : Machine) (ready : IsMachine m) (p : ℕ) (x : Processor) (lt : p < length m.processors.items) (read : x ≡ get_or m.processors.items p x) (stop : Stop) (next : ComesNext m p (Working stop)) where
+module _ (m : Parts) (ready : IsMachine m) (p : ℕ) (x : Processor) (lt : p < length m.processors.items) (read : x ≡ get_or m.processors.items p x) (stop : Stop) (next : ComesNext m p (Working stop)) where
   abbrev tree : Tree
   tree = tree_in m
 

@@ -20,3 +20,4 @@ mod Quiets
 mod WorkQuiets
 mod LoudDeeds
 mod NoneQuiet
+mod Seen

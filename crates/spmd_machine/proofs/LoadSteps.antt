@@ -36,7 +36,7 @@ use Rattle.turns.specs.declared.turns.Next.TheVariants.{Work}
 use Rattle.spmd_machine.specs.Machines.{ComesNext, IsMachine, IsSpot, LoadsIn, LoadsNext, StepsTo, StoresIn, StoresNext, plan_in, style_in, tree_in}
 use Rattle.spmd_machine.specs.Processors.{IsFoundNext, IsBegun, IsKept, all_of, is_turn_inside, left_of, memory_of, room_of}
 use Rattle.spmd_machine.specs.declared.answer.StepAnswer.TheVariants.{Stepped}
-use Rattle.spmd_machine.specs.declared.machine.Machine.{Machine}
+use Rattle.spmd_machine.specs.declared.parts.Parts.{Parts}
 use Rattle.spmd_machine.specs.declared.processor.Processor.{Processor}
 use Rattle.spmd_machine.specs.declared.processor.Spot.{Spot}
 use Rattle.spmd_machine.proofs.Kept.{same_room}
@@ -49,10 +49,10 @@ use Rattle.spmd_machine.proofs.Works.{at_own, begun_here, instance_is, left_load
 use Rattle.spmd_machine.proofs.Works as here
 
 -- what each processor has
-pub have_own : (m : Machine) → IsMachine m → HaveOwn m.processors.items
+pub have_own : (m : Parts) → IsMachine m → HaveOwn m.processors.items
 have_own m ready p d lt = (ready.kept p d lt).own_cells
 
-module _ (m : Machine) (ready : IsMachine m) (p : ℕ) (x : Processor) (lt : p < length m.processors.items) (read : x ≡ get_or m.processors.items p x) (stop : Stop) (next : ComesNext m p (Work stop)) where
+module _ (m : Parts) (ready : IsMachine m) (p : ℕ) (x : Processor) (lt : p < length m.processors.items) (read : x ≡ get_or m.processors.items p x) (stop : Stop) (next : ComesNext m p (Work stop)) where
   pub kept : IsKept (style_in m) (tree_in m) (plan_in m) (entries m.table) p x
   kept = kept_here m ready p x x lt read
 

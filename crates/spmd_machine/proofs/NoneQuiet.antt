@@ -9,7 +9,7 @@ use Rattle.turns.specs.Turns.{has_own}
 use Rattle.turns.proofs.KnownOwn.{none_at}
 use Rattle.spmd_machine.specs.Machines.{IsMachine, model_of, plan_in, shared_in, shown, style_in, tree_in}
 use Rattle.spmd_machine.specs.Processors.{left_of}
-use Rattle.spmd_machine.specs.declared.machine.Machine.{Machine}
+use Rattle.spmd_machine.specs.declared.parts.Parts.{Parts}
 use Rattle.spmd_machine.specs.declared.processor.Processor.{Processor}
 use Rattle.spmd_machine.proofs.Kept.{picked}
 use Rattle.spmd_machine.proofs.LoudDeeds.{IsLoud, all_loud}
@@ -17,7 +17,7 @@ use Rattle.spmd_machine.proofs.Quiets.{quiet_is, quiet_over}
 use Rattle.spmd_machine.proofs.Ready.{kept_here, shown_count}
 use Rattle.spmd_machine.proofs.Settles.{quiet_none}
 
-module _ (m : Machine) (ready : IsMachine m) (none : has_own (plan_in m) ≡ false) where
+module _ (m : Parts) (ready : IsMachine m) (none : has_own (plan_in m) ≡ false) where
   none_quiet : (p : ℕ) → p < length m.processors.items → nat_lt 0 (quiet_next (model_of m) (shared_in m) (shown m) p) ≡ false
   none_quiet p lt =
       let (x, read) = picked m.processors.items p lt in

@@ -10,14 +10,14 @@ use Rattle.turns.specs.TurnsLeft.{turns_left, turns_plan, turns_processor, turns
 use Rattle.turns.specs.declared.turns.Next.TheVariants.{Post, Await, Signal, AwaitSignal, End}
 use Rattle.spmd_machine.specs.Machines.{ComesNext, IsMachine, IsSameMachine, model_of, plan_in, shared_in, shown, style_in, tree_in}
 use Rattle.spmd_machine.specs.Processors.{left_of, state_of}
-use Rattle.spmd_machine.specs.declared.machine.Machine.{Machine}
+use Rattle.spmd_machine.specs.declared.parts.Parts.{Parts}
 use Rattle.spmd_machine.specs.declared.processor.Processor.{Processor}
 use Rattle.spmd_machine.proofs.Kept.{end_left, left_idle, picked, set_idle, wait_idle}
 use Rattle.spmd_machine.proofs.Ready.{along_shared, kept_here, next_here, worker_here}
 use Rattle.spmd_machine.proofs.Settles.{is_quiet_deed, quiet_by, quiet_end}
 use Rattle.spmd_machine.proofs.Steps.{next_from, next_none}
 
-module _ (m : Machine) (ready : IsMachine m) (p : ℕ) (x : Processor) (lt : p < length m.processors.items) (read : x ≡ get_or m.processors.items p x) where
+module _ (m : Parts) (ready : IsMachine m) (p : ℕ) (x : Processor) (lt : p < length m.processors.items) (read : x ≡ get_or m.processors.items p x) where
   pub quiet_is : (d : Deed) (rest : List Deed) → left_of x ≡ d ∷ rest → nat_lt 0 (quiet_next (model_of m) (shared_in m) (shown m) p) ≡ is_quiet_deed (shared_in m) d
   unfolding shown
   quiet_is d rest left =
@@ -45,36 +45,36 @@ module _ (m : Machine) (ready : IsMachine m) (p : ℕ) (x : Processor) (lt : p <
   end_loud next = quiet_over (end_left (style_in m) (tree_in m) (plan_in m) (entries m.table) p x (kept_here m ready p x x lt read) next)
 
 -- by what a look finds to come next
-pub post_loud : (m : Machine) → IsMachine m → (p number : ℕ) → p < length m.processors.items → ComesNext m p (Post number) → nat_lt 0 (quiet_next (model_of m) (shared_in m) (shown m) p) ≡ false
+pub post_loud : (m : Parts) → IsMachine m → (p number : ℕ) → p < length m.processors.items → ComesNext m p (Post number) → nat_lt 0 (quiet_next (model_of m) (shared_in m) (shown m) p) ≡ false
 post_loud m ready p number lt next =
     let (x, read) = picked m.processors.items p lt in
     let comes = next_here m ready p x x lt read (Post number) next in
     sets_loud m ready p x lt read counter number comes.0.0 comes.0.1
 
-pub await_loud : (m : Machine) → IsMachine m → (p on wanted : ℕ) → p < length m.processors.items → ComesNext m p (Await on wanted) → nat_lt 0 (quiet_next (model_of m) (shared_in m) (shown m) p) ≡ false
+pub await_loud : (m : Parts) → IsMachine m → (p on wanted : ℕ) → p < length m.processors.items → ComesNext m p (Await on wanted) → nat_lt 0 (quiet_next (model_of m) (shared_in m) (shown m) p) ≡ false
 await_loud m ready p on wanted lt next =
     let (x, read) = picked m.processors.items p lt in
     let comes = next_here m ready p x x lt read (Await on wanted) next in
     waits_loud m ready p x lt read counter on wanted comes.0.0 comes.0.1
 
-pub signal_loud : (m : Machine) → IsMachine m → (p number : ℕ) → p < length m.processors.items → ComesNext m p (Signal number) → nat_lt 0 (quiet_next (model_of m) (shared_in m) (shown m) p) ≡ false
+pub signal_loud : (m : Parts) → IsMachine m → (p number : ℕ) → p < length m.processors.items → ComesNext m p (Signal number) → nat_lt 0 (quiet_next (model_of m) (shared_in m) (shown m) p) ≡ false
 signal_loud m ready p number lt next =
     let (x, read) = picked m.processors.items p lt in
     let comes = next_here m ready p x x lt read (Signal number) next in
     sets_loud m ready p x lt read signal number comes.0.0 comes.0.1
 
-pub await_signal_loud : (m : Machine) → IsMachine m → (p on wanted : ℕ) → p < length m.processors.items → ComesNext m p (AwaitSignal on wanted) → nat_lt 0 (quiet_next (model_of m) (shared_in m) (shown m) p) ≡ false
+pub await_signal_loud : (m : Parts) → IsMachine m → (p on wanted : ℕ) → p < length m.processors.items → ComesNext m p (AwaitSignal on wanted) → nat_lt 0 (quiet_next (model_of m) (shared_in m) (shown m) p) ≡ false
 await_signal_loud m ready p on wanted lt next =
     let (x, read) = picked m.processors.items p lt in
     let comes = next_here m ready p x x lt read (AwaitSignal on wanted) next in
     waits_loud m ready p x lt read signal on wanted comes.0.0 comes.0.1
 
-pub end_is_loud : (m : Machine) → IsMachine m → (p : ℕ) → p < length m.processors.items → ComesNext m p End → nat_lt 0 (quiet_next (model_of m) (shared_in m) (shown m) p) ≡ false
+pub end_is_loud : (m : Parts) → IsMachine m → (p : ℕ) → p < length m.processors.items → ComesNext m p End → nat_lt 0 (quiet_next (model_of m) (shared_in m) (shown m) p) ≡ false
 end_is_loud m ready p lt next =
     let (x, read) = picked m.processors.items p lt in
     end_loud m ready p x lt read (next_here m ready p x x lt read End next)
 
 -- what holds behind a look holds in front of it
-pub looked_quiet : (m n : Machine) (p : ℕ) (b : Bool) → IsSameMachine m n → shown n ≡ shown m → nat_lt 0 (quiet_next (model_of n) (shared_in n) (shown n) p) ≡ b → nat_lt 0 (quiet_next (model_of m) (shared_in m) (shown m) p) ≡ b
+pub looked_quiet : (m n : Parts) (p : ℕ) (b : Bool) → IsSameMachine m n → shown n ≡ shown m → nat_lt 0 (quiet_next (model_of n) (shared_in n) (shown n) p) ≡ b → nat_lt 0 (quiet_next (model_of m) (shared_in m) (shown m) p) ≡ b
 looked_quiet m n p b same state h =
     along_shared (λ d shared. nat_lt 0 (quiet_next d shared (shown m) p) ≡ b) m n same (ap (λ s. nat_lt 0 (quiet_next (model_of n) (shared_in n) s p)) (sym state) ∙ h)

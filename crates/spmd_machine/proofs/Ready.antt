@@ -19,7 +19,7 @@ use Rattle.spmd_machine.specs.Machines.{ComesNext, HasDone, IsReached, IsMachine
 use Rattle.spmd_machine.specs.Processors.{IsKept, left_of, position_of, room_of}
 use Rattle.spmd_machine.specs.declared.answer.StepAnswer.{StepAnswer}
 use Rattle.spmd_machine.specs.declared.answer.StepAnswer.TheVariants.{Stepped, Ended}
-use Rattle.spmd_machine.specs.declared.machine.Machine.{Machine}
+use Rattle.spmd_machine.specs.declared.parts.Parts.{Parts}
 use Rattle.spmd_machine.specs.declared.processor.Processor.{Processor}
 use Rattle.turns.specs.TurnsLeft.{IsNext}
 use Rattle.turns.specs.declared.turns.Next.{Next}
@@ -35,9 +35,9 @@ reached_more m s p lt r = record {
   run = ap (λ t. stepped m t p) r.run ∙ sym (fold_push (stepped m) (first_state m) r.schedule p);
 }
 
-module _ (m : Machine) (ready : IsMachine m) (p : ℕ) (x y : Processor) (lt : p < length m.processors.items) (read : x ≡ get_or m.processors.items p x) where
+module _ (m : Parts) (ready : IsMachine m) (p : ℕ) (x y : Processor) (lt : p < length m.processors.items) (read : x ≡ get_or m.processors.items p x) where
   -- the machine with another processor, memory, output and values of loops
-  abbrev pub with_parts : Vec ℤ Global → Vec ℤ Global → Written → Machine
+  abbrev pub with_parts : Vec ℤ Global → Vec ℤ Global → Written → Parts
   with_parts loops memory output = record m { processors = with_item m.processors p y; loops = loops; memory = memory; output = output }
 
   pub kept_here : IsKept (style_in m) (tree_in m) (plan_in m) (entries m.table) p x
@@ -97,7 +97,7 @@ module _ (m : Machine) (ready : IsMachine m) (p : ℕ) (x y : Processor) (lt : p
   still_ready kept room same = ready_with m.loops m.memory m.output kept refl refl (omega (arith, room)) (omega arith) (subst (IsReached (model_of m)) (sym (still_shown same)) ready.reached)
 
 -- a code has filled its registers
-pub code_filled : (old new : Machine) (p : ℕ) (said : StepAnswer) (registers : Vec ℤ Global) → length registers.items ≡ length new.code_registers.items → StepsTo old new p said → StepsTo old (record new { code_registers = registers }) p said
+pub code_filled : (old new : Parts) (p : ℕ) (said : StepAnswer) (registers : Vec ℤ Global) → length registers.items ≡ length new.code_registers.items → StepsTo old new p said → StepsTo old (record new { code_registers = registers }) p said
 unfolding shown
 code_filled old new p said registers same step =
     let ready = step.ready in
@@ -124,7 +124,7 @@ code_filled old new p said registers same step =
     }
 
 -- a processor at its end
-pub at_end : (m : Machine) → IsMachine m → (p : ℕ) → p < length m.processors.items → ComesNext m p End → (shown m ≡ stepped (model_of m) (shown m) p) × (Ended ≡ step_answer (model_of m) (shown m) p)
+pub at_end : (m : Parts) → IsMachine m → (p : ℕ) → p < length m.processors.items → ComesNext m p End → (shown m ≡ stepped (model_of m) (shown m) p) × (Ended ≡ step_answer (model_of m) (shown m) p)
 unfolding shown
 at_end m ready p lt next =
     let (x, read) = picked m.processors.items p lt in
@@ -136,21 +136,21 @@ at_end m ready p lt next =
     )
 
 -- what holds of a machine's model holds of that of another of the same program and plan, in the same style
-pub along : (P : Timelines.Machine → Type 0) (m n : Machine) → IsSameMachine m n → P (model_of n) → P (model_of m)
+pub along : (P : Timelines.Machine → Type 0) (m n : Parts) → IsSameMachine m n → P (model_of n) → P (model_of m)
 along P m n same h =
     subst (λ (s : Style). P (machine_by s (tree_in m) (plan_in m))) same.style
     (subst (λ (q : Plan). P (machine_by (style_in n) (tree_in m) q)) same.plan (subst (λ (w : Tree). P (machine_by (style_in n) w (plan_in n))) same.program h))
 
-pub model_is : (m n : Machine) → IsSameMachine m n → model_of n ≡ model_of m
+pub model_is : (m n : Parts) → IsSameMachine m n → model_of n ≡ model_of m
 model_is m n same =
     ap (λ (s : Style). machine_by s (tree_in n) (plan_in n)) same.style ∙ ap (λ (w : Tree). machine_by (style_in m) w (plan_in n)) same.program
     ∙ ap (λ (q : Plan). machine_by (style_in m) (tree_in m) q) same.plan
 
-pub same_then : (m n o : Machine) → IsSameMachine m n → IsSameMachine n o → IsSameMachine m o
+pub same_then : (m n o : Parts) → IsSameMachine m n → IsSameMachine n o → IsSameMachine m o
 same_then m n o a b = record { program = b.program ∙ a.program; plan = b.plan ∙ a.plan; style = b.style ∙ a.style; count = b.count ∙ a.count }
 
 -- a step behind a look at what comes next
-pub steps_from : (m n o : Machine) (p : ℕ) (said : StepAnswer) → IsSameMachine m n → shown n ≡ shown m → StepsTo n o p said → StepsTo m o p said
+pub steps_from : (m n o : Parts) (p : ℕ) (said : StepAnswer) → IsSameMachine m n → shown n ≡ shown m → StepsTo n o p said → StepsTo m o p said
 steps_from m n o p said same state step = record {
   ready = step.ready;
   same = same_then m n o same step.same;
@@ -158,17 +158,17 @@ steps_from m n o p said same state step = record {
   answer = step.answer ∙ ap (λ (d : Timelines.Machine). step_answer d (shown n) p) (model_is m n same) ∙ ap (λ s. step_answer (model_of m) s p) state;
 }
 
-pub shared_is : (m n : Machine) → IsSameMachine m n → shared_in n ≡ shared_in m
+pub shared_is : (m n : Parts) → IsSameMachine m n → shared_in n ≡ shared_in m
 shared_is m n same = ap cell_count same.program
 
 -- the same with the count of cells that all share
-pub along_shared : (P : Timelines.Machine → ℕ → Type 0) (m n : Machine) → IsSameMachine m n → P (model_of n) (shared_in n) → P (model_of m) (shared_in m)
+pub along_shared : (P : Timelines.Machine → ℕ → Type 0) (m n : Parts) → IsSameMachine m n → P (model_of n) (shared_in n) → P (model_of m) (shared_in m)
 along_shared P m n same h = subst (P (model_of m)) (shared_is m n same) (subst (λ (d : Timelines.Machine). P d (shared_in n)) (model_is m n same) h)
 
-pub shown_count : (m : Machine) → length (shown m).positions ≡ length m.processors.items
+pub shown_count : (m : Parts) → length (shown m).positions ≡ length m.processors.items
 unfolding shown
 shown_count m = length-map m.processors.items (position_of (style_in m) (tree_in m) (plan_in m))
 
 -- how much is done of what comes next
-pub done_is : (m : Machine) (p n : ℕ) (x : Processor) → p < length m.processors.items → x ≡ get_or m.processors.items p x → x.done ≡ n → HasDone m p n
+pub done_is : (m : Parts) (p n : ℕ) (x : Processor) → p < length m.processors.items → x ≡ get_or m.processors.items p x → x.done ≡ n → HasDone m p n
 done_is m p n x lt read is = λ d. ap (λ (z : Processor). z.done) (sym (read ∙ get_or_default m.processors.items p x d lt)) ∙ is

@@ -10,14 +10,14 @@ use Rattle.turns.specs.TurnsLeft.{turns_left, turns_plan, turns_processor, turns
 use Rattle.spmd_machine.specs.Machines.{IsMachine, StepsTo, plan_in, style_in, tree_in}
 use Rattle.spmd_machine.specs.Processors.{IsIdle, IsKept, PassesTurn, state_of}
 use Rattle.spmd_machine.specs.declared.answer.StepAnswer.TheVariants.{Stepped}
-use Rattle.spmd_machine.specs.declared.machine.Machine.{Machine}
+use Rattle.spmd_machine.specs.declared.parts.Parts.{Parts}
 use Rattle.spmd_machine.specs.declared.processor.Processor.{Processor}
 use Rattle.spmd_machine.proofs.Kept.{first_is, left_turn, passed_kept, room_passed, set_idle, wait_idle}
 use Rattle.spmd_machine.proofs.OwnMemory.{same_memory}
 use Rattle.spmd_machine.proofs.Ready.{kept_here, steps, with_parts, worker_here}
 use Rattle.spmd_machine.proofs.Steps.{same_counters, same_registers, same_signals}
 
-module _ (m : Machine) (ready : IsMachine m) (p : ℕ) (x y : Processor) (lt : p < length m.processors.items) (read : x ≡ get_or m.processors.items p x) where
+module _ (m : Parts) (ready : IsMachine m) (p : ℕ) (x y : Processor) (lt : p < length m.processors.items) (read : x ≡ get_or m.processors.items p x) where
   abbrev here : State
   here = state_of (style_in m) (tree_in m) (plan_in m) m.processors.items m.memory.items m.output.bytes
 

@@ -13,7 +13,7 @@ use Rattle.spmd_model.specs.Deeds.{last_deed, loading}
 use Rattle.spmd_model.specs.Quiet.{quiet_next}
 use Rattle.turns.specs.declared.turns.Next.TheVariants.{Work}
 use Rattle.spmd_machine.specs.Machines.{ComesNext, IsMachine, LoadsNext, model_of, plan_in, shared_in, shown, tree_in}
-use Rattle.spmd_machine.specs.declared.machine.Machine.{Machine}
+use Rattle.spmd_machine.specs.declared.parts.Parts.{Parts}
 use Rattle.spmd_machine.specs.declared.processor.Processor.{Processor}
 use Rattle.spmd_machine.proofs.LoadSteps.{inside, inst, kept, loads_here, rest, turns_are}
 use Rattle.spmd_machine.proofs.OwnPlaces.{own_quiet}
@@ -21,7 +21,7 @@ use Rattle.spmd_machine.proofs.Quiets.{quiet_is}
 use Rattle.spmd_machine.proofs.Settles.{is_quiet_deed}
 use Rattle.spmd_machine.proofs.Works.{at_own, left_end, left_first}
 
-module _ (m : Machine) (ready : IsMachine m) (p : ℕ) (x : Processor) (lt : p < length m.processors.items) (read : x ≡ get_or m.processors.items p x) (stop : Stop) (next : ComesNext m p (Work stop)) (cells : WorkCells) (at : slice_get (entries m.table) (stop.first - 1) ≡ Some cells) where
+module _ (m : Parts) (ready : IsMachine m) (p : ℕ) (x : Processor) (lt : p < length m.processors.items) (read : x ≡ get_or m.processors.items p x) (stop : Stop) (next : ComesNext m p (Work stop)) (cells : WorkCells) (at : slice_get (entries m.table) (stop.first - 1) ≡ Some cells) where
   pub load_quiet : (cell : ℕ) (o : Option ℕ) → LoadsNext m p stop (Some cell) → (own_of (tree_in m) (plan_in m) x.turns.place).slot cell ≡ o → nat_lt 0 (quiet_next (model_of m) (shared_in m) (shown m) p) ≡ is_some o
   load_quiet cell o loads slot =
       let (later, left) = left_first m ready p x (kept m ready p x lt read stop next) stop (inst m ready p x lt read stop next) (rest m ready p x lt read stop next) (turns_are m ready p x lt read stop next) cells at cell (loads_here m ready p x lt read stop next (Some cell) loads) in

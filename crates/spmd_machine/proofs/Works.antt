@@ -46,7 +46,7 @@ use Rattle.turns.specs.declared.turns.Turns.{Turns}
 use Rattle.turns.specs.TurnsLeft.{turns_left, turns_path, turns_plan, turns_processor, turns_rounds, turns_tree}
 use Rattle.spmd_machine.specs.Machines.{IsMachine, plan_in, style_in, tree_in}
 use Rattle.spmd_machine.specs.Processors.{IsBegun, IsKept, IsRunning, is_turn_inside, left_of}
-use Rattle.spmd_machine.specs.declared.machine.Machine.{Machine}
+use Rattle.spmd_machine.specs.declared.parts.Parts.{Parts}
 use Rattle.spmd_machine.specs.declared.processor.Processor.{Processor}
 use Rattle.spmd_machine.proofs.Kept.{first_is}
 
@@ -62,7 +62,7 @@ last_first f (c ∷ cells) d behind n count =
     let more : n ≡ suc (length cells) = omega (arith, count) in
     ap (λ k. drop k (f c ∷ (map f cells ++ (d ∷ behind)))) more ∙ last_first f cells d behind (length cells) refl
 
-module _ (m : Machine) (ready : IsMachine m) (p : ℕ) (x : Processor) (kept : IsKept (style_in m) (tree_in m) (plan_in m) (entries m.table) p x) (stop : Stop) (inst : IsInstance (counters_tree x.turns.counters) (turns_rounds x.turns) stop) (rest : List Turn) (next : turns_left x.turns ≡ runs x.turns.place inst.instance ∷ rest) where
+module _ (m : Parts) (ready : IsMachine m) (p : ℕ) (x : Processor) (kept : IsKept (style_in m) (tree_in m) (plan_in m) (entries m.table) p x) (stop : Stop) (inst : IsInstance (counters_tree x.turns.counters) (turns_rounds x.turns) stop) (rest : List Turn) (next : turns_left x.turns ≡ runs x.turns.place inst.instance ∷ rest) where
   abbrev tree : Tree
   tree = tree_in m
 

@@ -1,4 +1,5 @@
 pub mod Processors
 pub mod Machines
+pub mod Views
 pub mod Promises
 pub mod Ends

@@ -22,6 +22,7 @@ use Rattle.spmd_model.specs.Timelines as Timelines
 use Rattle.spmd_model.specs.Acts.{Act, post, await, load, store, add, print}
 use Rattle.spmd_model.specs.declared.style.Style.{Style}
 use Rattle.spmd_machine.specs.Processors.{IsKept, room_of, state_of}
+use Rattle.spmd_machine.specs.Views.{MachineView}
 use Rattle.instance_runs.specs.Loads.{width}
 use Rattle.turns.specs.CountersLeft.{counters_tree}
 use Rattle.instance_runs.specs.Stops.{IsInstance}
@@ -29,29 +30,33 @@ use Rattle.turns.specs.TurnsLeft.{IsNext, turns_rounds}
 use Rattle.turns.specs.declared.turns.Next.{Next}
 use Rattle.spmd_machine.specs.declared.answer.StepAnswer.{StepAnswer}
 use Rattle.spmd_machine.specs.declared.answer.StepAnswer.TheVariants.{Stepped, Blocked, Ended}
-use Rattle.spmd_machine.specs.declared.machine.Machine.{Machine}
+use Rattle.spmd_machine.specs.declared.parts.Parts.{Parts}
 use Rattle.spmd_machine.specs.declared.processor.Processor.{Processor}
 use Rattle.spmd_machine.specs.declared.processor.Spot.{Spot}
 
-abbrev pub tree_in : Machine → Tree
+abbrev pub tree_in : Parts → Tree
 tree_in m = tree_of m.program.now
 
-abbrev pub plan_in : Machine → Plan
+abbrev pub plan_in : Parts → Plan
 plan_in m = m.plan.now
 
-abbrev pub style_in : Machine → Style
+abbrev pub style_in : Parts → Style
 style_in m = m.style
 
 -- the definition's machine of the program under the plan in the style, and how many cells all share
-abbrev pub model_of : Machine → Timelines.Machine
+abbrev pub model_of : Parts → Timelines.Machine
 model_of m = machine_by (style_in m) (tree_in m) (plan_in m)
 
-abbrev pub shared_in : Machine → ℕ
+abbrev pub shared_in : Parts → ℕ
 shared_in m = cell_count (tree_in m)
 
 -- the state that a machine shows
-unfoldable pub shown : Machine → State
+unfoldable pub shown : Parts → State
 shown m = state_of (style_in m) (tree_in m) (plan_in m) m.processors.items m.memory.items m.output.bytes
+
+-- what contracts see of a machine
+abbrev pub view_of : Parts → MachineView
+view_of m = record { program = m.program.now; plan = m.plan.now; style = m.style; state = shown m }
 
 -- what a step answers where this is the processor's next act
 abbrev pub answer_at : State → Option Act → StepAnswer
@@ -73,7 +78,7 @@ pub record IsReached (m : Timelines.Machine) (s : State) : Type 0 where
   pub run : s ≡ run_of m schedule
 
 -- a machine is in a state that some schedule leads to, and its parts are those of its program and its plan, which fits it
-pub record IsMachine (m : Machine) : Type 0 where
+pub record IsMachine (m : Parts) : Type 0 where
   pub formed : IsWellFormed (tree_in m)
   pub ranges : IsInRange (tree_in m)
   pub fits : IsFit (tree_in m) (plan_in m)
@@ -90,50 +95,50 @@ pub record IsMachine (m : Machine) : Type 0 where
   pub reached : IsReached (model_of m) (shown m)
 
 -- this comes next of processor p
-abbrev pub ComesNext : Machine → ℕ → Next → Type 0
+abbrev pub ComesNext : Parts → ℕ → Next → Type 0
 ComesNext m p next = (d : Processor) → IsNext (slice_index_or m.processors.items p d).turns next
 
 -- so many acts are done of what comes next of processor p
-abbrev pub HasDone : Machine → ℕ → ℕ → Type 0
+abbrev pub HasDone : Parts → ℕ → ℕ → Type 0
 HasDone m p n = (d : Processor) → (slice_index_or m.processors.items p d).done ≡ n
 
 -- the instance at a stop that comes next of a processor loads this of the cells that all share next, or nothing more
 abbrev pub LoadsIn : Processor → Stop → Option ℕ → Type 0
 LoadsIn x stop cell = (comes : IsInstance (counters_tree x.turns.counters) (turns_rounds x.turns) stop) → slice_get (loads_of (counters_tree x.turns.counters) comes.instance) x.done ≡ cell
 
-abbrev pub LoadsNext : Machine → ℕ → Stop → Option ℕ → Type 0
+abbrev pub LoadsNext : Parts → ℕ → Stop → Option ℕ → Type 0
 LoadsNext m p stop cell = (d : Processor) → LoadsIn (slice_index_or m.processors.items p d) stop cell
 
 -- the instance at a stop that comes next of processor p stores to this of the cells that all share
 abbrev pub StoresIn : Tree → Processor → Stop → ℕ → Type 0
 StoresIn tree x stop cell = (comes : IsInstance (counters_tree x.turns.counters) (turns_rounds x.turns) stop) → store_of tree comes.instance ≡ Some cell
 
-abbrev pub StoresNext : Machine → ℕ → Stop → ℕ → Type 0
+abbrev pub StoresNext : Parts → ℕ → Stop → ℕ → Type 0
 StoresNext m p stop cell = (d : Processor) → StoresIn (tree_in m) (slice_index_or m.processors.items p d) stop cell
 
 -- an access of a cell by processor p goes to this spot: to its own cell where it is that of an own scalar of its phase
-abbrev pub IsSpot : Machine → ℕ → Spot → Type 0
+abbrev pub IsSpot : Parts → ℕ → Spot → Type 0
 IsSpot m p spot = (d : Processor) → (own_of (tree_in m) (plan_in m) (slice_index_or m.processors.items p d).turns.place).slot spot.cell ≡ spot.own
 
 -- of the same program and plan, in the same style
-pub record IsSameMachine (old new : Machine) : Type 0 where
+pub record IsSameMachine (old new : Parts) : Type 0 where
   pub program : tree_in new ≡ tree_in old
   pub plan : plan_in new ≡ plan_in old
   pub style : style_in new ≡ style_in old
   pub count : length new.processors.items ≡ length old.processors.items
 
 -- a machine behind an act of processor p, with what it answers
-pub record StepsTo (old new : Machine) (p : ℕ) (said : StepAnswer) : Type 0 where
+pub record StepsTo (old new : Parts) (p : ℕ) (said : StepAnswer) : Type 0 where
   pub ready : IsMachine new
   pub same : IsSameMachine old new
   pub state : shown new ≡ stepped (model_of old) (shown old) p
   pub answer : said ≡ step_answer (model_of old) (shown old) p
 
 -- the act of processor p that comes next is done where this says so, else nothing is
-abbrev pub GoesQuietly : Machine → Machine → ℕ → Bool → Type 0
+abbrev pub GoesQuietly : Parts → Parts → ℕ → Bool → Type 0
 GoesQuietly old new p true = (said : StepAnswer) × StepsTo old new p said
 GoesQuietly old new p false = shown new ≡ shown old
 
 -- no act on its own cells stands next of a processor
-abbrev pub IsSettled : Machine → ℕ → Type 0
+abbrev pub IsSettled : Parts → ℕ → Type 0
 IsSettled m p = quiet_next (model_of m) (shared_in m) (shown m) p ≡ 0

@@ -3,11 +3,13 @@
 //! - [`machine`]: the machine, its step and its runs.
 //! - [`answer`]: what a step answers.
 //! - [`receipt`]: that a run has come to its end.
+//! - `parts`: the parts of a machine, and what its calls do with them.
 //! - `processor`: a processor of the machine.
 #![tactic(auto)]
 
 pub mod answer;
 pub mod machine;
+mod parts;
 mod processor;
 pub mod receipt;
 

@@ -6,9 +6,10 @@ ghost use Rattle.nest_model.specs.Memory.{last_memory};
 ghost use Rattle.sync_plan.specs.Ordered.{IsOrdered};
 ghost use Rattle.spmd_model.specs.Runs.{IsEnded};
 ghost use Rattle.spmd_machine.specs.Ends.{HasRun};
-ghost use Rattle.spmd_machine.specs.Machines.{IsMachine, model_of, plan_in, shared_in, shown, style_in, tree_in};
+ghost use Rattle.spmd_machine.specs.Views.{model_at, shared_at, tree_at};
 
 use crate::machine::Machine;
+use crate::parts::Parts;
 use nest_tree::Program;
 use proof_note::Note;
 use seq_meaning::Output;
@@ -53,19 +54,19 @@ impl Model for Receipt {
 impl Receipt {
     /// The receipt of a machine whose processors have all ended, and what they printed.
     pub fn of(machine: Machine<'_>) -> (Receipt, Output)
-        requires ready { IsMachine machine }
-        requires ended { IsEnded (model_of machine) (shown machine) }
-        ensures program { tree_of result.0.program ≡ tree_in machine.entry }
-        ensures plan { result.0.plan ≡ plan_in machine.entry }
-        ensures style { result.0.style ≡ style_in machine.entry }
+        requires ended { IsEnded (model_at machine) machine.state }
+        ensures program { tree_of result.0.program ≡ tree_at machine.entry }
+        ensures plan { result.0.plan ≡ machine.entry.plan }
+        ensures style { result.0.style ≡ machine.entry.style }
         ensures memory { result.0.memory
-            ≡ take (shared_in machine.entry) (shown machine.entry).memory }
-        ensures last { IsOrdered (tree_in machine.entry) (plan_in machine.entry)
-            → result.0.memory ≡ last_memory (tree_in machine.entry) }
+            ≡ take (shared_at machine.entry) machine.entry.state.memory }
+        ensures last { IsOrdered (tree_at machine.entry) machine.entry.plan
+            → result.0.memory ≡ last_memory (tree_at machine.entry) }
         ensures run { HasRun result.0 }
-        ensures output { result.1.bytes ≡ (shown machine.entry).output }
+        ensures output { result.1.bytes ≡ machine.entry.state.output }
     {
-        let Machine {
+        let Machine { parts } = machine;
+        let Parts {
             program,
             plan,
             style,
@@ -77,7 +78,7 @@ impl Receipt {
             processors: _,
             memory,
             output,
-        } = machine;
+        } = parts;
         let program = Note::of(program);
         let plan = Note::of(plan);
         let receipt = Receipt {

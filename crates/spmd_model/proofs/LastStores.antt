@@ -9,6 +9,7 @@ use Rattle.std.proofs.lemmas.Grind.{flat_map-append}
 use Rattle.std.proofs.lemmas.List.{append_assoc, get_or-set_other, get_or-set_same, take-append-le}
 use Rattle.std.proofs.lemmas.List.Elements.{All-append, All-cons, All-nil, All-weaker, Contains-append_right}
 use Rattle.std.proofs.lemmas.List.Sums.{sum_by-append}
+use Rattle.list_lemmas.proofs.Appending.{take-behind}
 use Rattle.list_lemmas.proofs.Gets.{get-behind}
 use Rattle.nest_tree.specs.declared.tree.Guard.{Guard}
 use Rattle.nest_tree.specs.Form.{Form, dot, form_value, is_form, is_small, numbered, rises_above}
@@ -31,7 +32,6 @@ use Rattle.sync_plan.specs.Stored.{path_runs, path_runs_in}
 use Rattle.sync_plan.proofs.FitOwners.{AgreeBelow, agree_among, form_agrees, named_low}
 use Rattle.sync_plan.proofs.PhasePlaces.{placed_count, visit_there, placed_works}
 use Rattle.spmd_model.proofs.CellsThere.{every}
-use Rattle.spmd_model.proofs.Lists.{take-behind}
 
 -- ---- the last of some values
 

@@ -1,4 +1,5 @@
 pub mod Lists
+pub mod Places
 pub mod ActLists
 pub mod MomentActs
 pub mod Registers

@@ -8,8 +8,9 @@ use Rattle.std.proofs.lemmas.List.{append_assoc, length-map, length-take-le, map
 use Rattle.std.proofs.lemmas.List.Elements.{Contains-append_cases, Contains-append_left, Contains-append_right}
 use Rattle.std.proofs.lemmas.List.Sums.{fold-append, sum_by-append, sum_by-cons}
 use Rattle.std.proofs.lemmas.Option.{slice_get-map, slice_get_within}
+use Rattle.list_lemmas.proofs.Appending.{take-behind}
 use Rattle.list_lemmas.proofs.Gets.{get-front, get-behind}
-use Rattle.list_lemmas.proofs.Elements.{contains_at}
+use Rattle.list_lemmas.proofs.Elements.{contains_at, Contains-flat_map_cases}
 use Rattle.list_lemmas.proofs.Each.{all-contained, All-left}
 use Rattle.nest_tree.specs.Layout.{first_cell}
 use Rattle.nest_tree.specs.Tree.{Tree, param_values}
@@ -34,7 +35,6 @@ use Rattle.spmd_model.specs.Machines.{Part, boundaries_by, cells_under, instance
 use Rattle.spmd_model.specs.Timelines.{Job, Moment, job}
 use Rattle.spmd_model.specs.Trips.{last_behind}
 use Rattle.spmd_model.specs.declared.style.Style.{Style}
-use Rattle.spmd_model.proofs.Lists.{take-behind}
 use Rattle.spmd_model.proofs.OwnClosings.{own_apart}
 use Rattle.spmd_model.proofs.OwnPhases.{load_gives}
 use Rattle.spmd_model.proofs.OwnRuns.{AreGoodJobs, IsGoodJob, no_store, to_shared, to_private, to_sum, along, assigned_behind}
@@ -43,7 +43,7 @@ use Rattle.spmd_model.proofs.Parts.{part_at, part_length, passed_before}
 use Rattle.spmd_model.proofs.PhaseJobs.{all_fine, phase_good}
 use Rattle.spmd_model.proofs.PhaseMemory.{at_first}
 use Rattle.spmd_model.proofs.PlannedMemory.{job_behind}
-use Rattle.spmd_model.proofs.Stands.{execution_place, execution_there, in_flat_map, in_phase}
+use Rattle.spmd_model.proofs.Stands.{execution_place, execution_there, in_phase}
 use Rattle.spmd_model.proofs.MachineMemory.{AreWithin, at_start, fold_front, fold_jobs, fold_own, fold_plain, has_along, jobs_within, map_map, phases_follow, plain_within, stripped, within_front}
 use Rattle.spmd_model.proofs.MachinePlaces.{IsJobIn, front_length, job_in}
 use Rattle.spmd_model.proofs.TripJobs.{IsFineIn, job_in_phase}
@@ -136,10 +136,10 @@ pub record IsInstanceIn (style : Style) (tree : Tree) (plan : Plan) (place : ℕ
 -- closings count as none
 closing_counts : (tree : Tree) (plan : Plan) (v : Visit) (j : Job) → Contains (closings_of tree plan v) j → j.counts ≡ 0
 closing_counts tree plan v j among = elim (Contains-append_cases (flat_map (keeping_of tree plan v) (own_loop tree plan v.place).privates) (flat_map (totalling_of tree plan v) (own_loop tree plan v.place).sums) j among) [
-  | inl kept ↦ let u = in_flat_map (keeping_of tree plan v) (own_loop tree plan v.place).privates j kept in keeps u.0 (last_owner tree plan v) u.2
+  | inl kept ↦ let u = Contains-flat_map_cases (keeping_of tree plan v) (own_loop tree plan v.place).privates j kept in keeps u.0 (last_owner tree plan v) u.2
   | inr summed ↦
-      let u = in_flat_map (totalling_of tree plan v) (own_loop tree plan v.place).sums j summed in
-      let p = in_flat_map (total_of tree plan v u.0) (range_with_len 0 plan.workers) j u.2 in
+      let u = Contains-flat_map_cases (totalling_of tree plan v) (own_loop tree plan v.place).sums j summed in
+      let p = Contains-flat_map_cases (total_of tree plan v u.0) (range_with_len 0 plan.workers) j u.2 in
       adds u.0 p.0 (has_stored tree plan v (first_cell tree u.0) p.0) p.2
 ]
   where

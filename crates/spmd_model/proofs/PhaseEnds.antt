@@ -5,7 +5,7 @@ use Rattle.std.specs.List.{AllByRecursion, flat_map, list_any, range_with_len}
 use Rattle.std.proofs.lemmas.Bool.{and_parts, cases_Bool, cases_eq, eqb-true}
 use Rattle.std.proofs.lemmas.List.Elements.{Contains-append_cases, Contains-append_right}
 use Rattle.std.proofs.lemmas.List.Sums.{fold-append}
-use Rattle.list_lemmas.proofs.Elements.{Contains-flat_map}
+use Rattle.list_lemmas.proofs.Elements.{Contains-flat_map, Contains-flat_map_cases}
 use Rattle.list_lemmas.proofs.Ranges.{range_there}
 use Rattle.nest_tree.specs.Layout.{cell_count, first_cell}
 use Rattle.nest_tree.specs.Tree.{Statement, do_loop, work, continue, Tree, param_values}
@@ -35,7 +35,7 @@ use Rattle.spmd_model.proofs.LastOwners.{last_by, no_last}
 use Rattle.spmd_model.proofs.LastStores.{last_among, split_at}
 use Rattle.spmd_model.proofs.PhaseJobs.{first_stores, all_fine, last_kept, phase_good}
 use Rattle.spmd_model.proofs.PhaseMemory.{IsClosing, changes_shared, sets, IsIdle, at_first, idle_along, zero_set, zero_stays}
-use Rattle.spmd_model.proofs.Stands.{any_there, in_flat_map, in_map, scalar_below, slot_there}
+use Rattle.spmd_model.proofs.Stands.{any_there, in_map, scalar_below, slot_there}
 use Rattle.spmd_model.proofs.TripJobs.{IsFineIn, job_in_phase}
 
 -- ---- lists of scalars by their cells
@@ -245,10 +245,10 @@ module _ (tree : Tree) (plan : Plan) (k : ℕ) (v : Visit) (formed : IsWellForme
 
   is_closing : (j : Job) → Contains (closings_of tree plan v) j → IsClosing (cell_count tree) j
   is_closing j among = elim (Contains-append_cases (flat_map (keeping_of tree plan v) (own_loop tree plan v.place).privates) (flat_map (totalling_of tree plan v) (own_loop tree plan v.place).sums) j among) [
-    | inl kept ↦ let u = in_flat_map (keeping_of tree plan v) (own_loop tree plan v.place).privates j kept in keeps (first_cell tree u.0) (scalar_below tree u.0 (private_is tree plan v o u.0 u.1).1) (last_owner tree plan v) u.2
+    | inl kept ↦ let u = Contains-flat_map_cases (keeping_of tree plan v) (own_loop tree plan v.place).privates j kept in keeps (first_cell tree u.0) (scalar_below tree u.0 (private_is tree plan v o u.0 u.1).1) (last_owner tree plan v) u.2
     | inr summed ↦
-        let u = in_flat_map (totalling_of tree plan v) (own_loop tree plan v.place).sums j summed in
-        let p = in_flat_map (total_of tree plan v u.0) (range_with_len 0 plan.workers) j u.2 in
+        let u = Contains-flat_map_cases (totalling_of tree plan v) (own_loop tree plan v.place).sums j summed in
+        let p = Contains-flat_map_cases (total_of tree plan v u.0) (range_with_len 0 plan.workers) j u.2 in
         adds (first_cell tree u.0) p.0 (scalar_below tree u.0 (sum_is tree plan v o u.0 u.1).1) (has_stored tree plan v (first_cell tree u.0) p.0) p.2
   ]
     where

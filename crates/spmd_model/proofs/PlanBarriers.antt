@@ -5,6 +5,7 @@ use Rattle.std.specs.List.{All, filter, flat_map, range_with_len}
 use Rattle.std.proofs.lemmas.Bool.{and_parts, cases_Bool}
 use Rattle.std.proofs.lemmas.List.{length-take-le}
 use Rattle.std.proofs.lemmas.Option.{slice_get_within}
+use Rattle.list_lemmas.proofs.Appending.{take-behind}
 use Rattle.nest_tree.specs.Tree.{Tree}
 use Rattle.nest_model.specs.Visits.{Visit}
 use Rattle.owner_partition.specs.Phases.{phases}
@@ -18,7 +19,6 @@ use Rattle.spmd_model.specs.Rounds.{round_boundary, rounds_in, rounds_of}
 use Rattle.spmd_model.specs.Machines.{Part, boundaries_by, instance_jobs, is_by_signals, machine_by, moments_of, part_of, part_place, parts_by, parts_from, signal_barriers, timeline_by}
 use Rattle.spmd_model.specs.declared.style.Style.{Style}
 use Rattle.spmd_model.specs.declared.style.Style.TheVariants.{Arrive, Dissemination}
-use Rattle.spmd_model.proofs.Lists.{take-behind}
 use Rattle.spmd_model.proofs.MomentActs.{IsAwaitIn, IsPostIn, tells}
 use Rattle.spmd_model.proofs.Parts.{passed_before}
 use Rattle.spmd_model.proofs.MachinePlaces.{Fronts, IsBoundaryIn, boundary_in, by_counters, by_signals, first_round}

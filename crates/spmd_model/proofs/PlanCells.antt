@@ -1,5 +1,5 @@
 -- Which cells the acts along a plan's timeline in a style load, and to which they add.
-use Rattle.std.proofs.Common.{◌≡◌, ℕ, zero, suc, ◌+◌, ◌-◌, ◌<◌, ◌≤◌, Bool, true, false, true≢false, List, [], ◌∷◌, ◌++◌, length, Option, Some, None, ◌==◌, ap, sym, subst, ◌∙◌, inl, inr, arith}
+use Rattle.std.proofs.Common.{◌≡◌, ℕ, zero, suc, ◌+◌, ◌-◌, ◌<◌, ◌≤◌, Bool, true, false, true≢false, List, [], ◌++◌, length, Option, Some, None, ◌==◌, ap, sym, subst, ◌∙◌, inl, inr, arith}
 use Rattle.std.specs.Prelude.{Contains, slice_get}
 use Rattle.std.specs.List.{flat_map, range_with_len}
 use Rattle.std.specs.Option.{option_map, option_or}
@@ -7,7 +7,7 @@ use Rattle.std.proofs.lemmas.Bool.{cases_Bool, cases_lt}
 use Rattle.std.proofs.lemmas.List.Elements.{Contains-append_cases}
 use Rattle.std.proofs.lemmas.Option.{slice_get-map}
 use Rattle.list_lemmas.proofs.Gets.{get-front, get-behind}
-use Rattle.list_lemmas.proofs.Elements.{contains_at}
+use Rattle.list_lemmas.proofs.Elements.{contains_at, Contains-flat_map_cases, Contains-one}
 use Rattle.nest_tree.specs.Layout.{cell_count, first_cell}
 use Rattle.nest_tree.specs.Tree.{Tree, param_values}
 use Rattle.nest_tree.specs.WellFormed.{IsWellFormed}
@@ -30,7 +30,7 @@ use Rattle.spmd_model.specs.declared.style.Style.{Style}
 use Rattle.spmd_model.proofs.ActLists.{found}
 use Rattle.spmd_model.proofs.MomentActs.{IsChangeIn, IsLoadIn, tells}
 use Rattle.spmd_model.proofs.OwnTexts.{AreOwnIn, cell_there, own_in_phase, place_there, sum_is}
-use Rattle.spmd_model.proofs.Stands.{Under, in_flat_map, in_map, in_phase, own_one, own_one_is, scalar_below, shared_one, under}
+use Rattle.spmd_model.proofs.Stands.{Under, in_map, in_phase, own_one, own_one_is, scalar_below, shared_one, under}
 use Rattle.spmd_model.proofs.MachineLoads.{IsInstanceIn, instance_in}
 use Rattle.spmd_model.proofs.MachinePlaces.{IsJobIn, job_in}
 
@@ -44,10 +44,6 @@ record IsClosing (tree : Tree) (j : Job) : Type 0 where
 nothing : {X : Type 0} (x : X) → Contains {X = X} [] x → ⊥
 nothing x (n, lt, is) = omega (arith, lt)
 
-one_of : {X : Type 0} (x y : X) → Contains (x ∷ []) y → x ≡ y
-one_of x y (zero, lt, e) = e
-one_of x y (suc k, lt, e) = absurd (omega (arith, lt))
-
 same_cell : (c d : ℕ) → Some c ≡ Some d → c ≡ d
 same_cell c d e = cc
 
@@ -55,32 +51,32 @@ module _ (tree : Tree) (plan : Plan) (v : Visit) (o : AreOwnIn tree plan v) wher
   kept_closing : (u q : ℕ) → Contains (own_loop tree plan v.place).privates u → IsClosing tree (moves_to false q (own_cell (own_of tree plan v.place) q (first_cell tree u)) (first_cell tree u))
   kept_closing u q among =
       let own = own_one_is tree plan v o q (first_cell tree u) (inl (cell_there tree (own_loop tree plan v.place).privates u among)) in
-      record { loads = λ c has. (let is = one_of (own_cell (own_of tree plan v.place) q (first_cell tree u)) c has in omega (arith, is, own.2)); adds = λ c adds stores. absurd (true≢false (sym adds)) }
+      record { loads = λ c has. (let is = Contains-one (own_cell (own_of tree plan v.place) q (first_cell tree u)) c has in omega (arith, is, own.2)); adds = λ c adds stores. absurd (true≢false (sym adds)) }
 
   total_closing : (u q : ℕ) → Contains (own_loop tree plan v.place).sums u → IsClosing tree (moves_to true q (own_cell (own_of tree plan v.place) q (first_cell tree u)) (first_cell tree u))
   total_closing u q among =
       let own = own_one_is tree plan v o q (first_cell tree u) (inr (cell_there tree (own_loop tree plan v.place).sums u among)) in
       let below = scalar_below tree u (sum_is tree plan v o u among).1 in
-      record { loads = λ c has. (let is = one_of (own_cell (own_of tree plan v.place) q (first_cell tree u)) c has in omega (arith, is, own.2)); adds = λ c adds stores. (let is = same_cell (first_cell tree u) c stores in omega (arith, is, below)) }
+      record { loads = λ c has. (let is = Contains-one (own_cell (own_of tree plan v.place) q (first_cell tree u)) c has in omega (arith, is, own.2)); adds = λ c adds stores. (let is = same_cell (first_cell tree u) c stores in omega (arith, is, below)) }
 
   zero_closing : (q c : ℕ) → IsClosing tree (sets_to_zero q c)
   zero_closing q c = record { loads = λ d has. absurd (nothing d has); adds = λ d adds stores. absurd (true≢false (sym adds)) }
 
   in_keeping : (u : ℕ) (j : Job) → Contains (own_loop tree plan v.place).privates u → (w : Option ℕ) → Contains (keeping (own_of tree plan v.place) (first_cell tree u) w) j → IsClosing tree j
   in_keeping u j among None has = absurd (nothing j has)
-  in_keeping u j among (Some q) has = subst (IsClosing tree) (one_of (moves_to false q (own_cell (own_of tree plan v.place) q (first_cell tree u)) (first_cell tree u)) j has) (kept_closing u q among)
+  in_keeping u j among (Some q) has = subst (IsClosing tree) (Contains-one (moves_to false q (own_cell (own_of tree plan v.place) q (first_cell tree u)) (first_cell tree u)) j has) (kept_closing u q among)
 
   in_total : (u q : ℕ) (j : Job) → Contains (own_loop tree plan v.place).sums u → (b : Bool) → Contains (totalling (own_of tree plan v.place) (first_cell tree u) q b) j → IsClosing tree j
   in_total u q j among false has = absurd (nothing j has)
   in_total u q j among true (zero, lt, same) = subst (IsClosing tree) same (total_closing u q among)
-  in_total u q j among true (suc n, lt, same) = subst (IsClosing tree) (one_of (sets_to_zero q (own_cell (own_of tree plan v.place) q (first_cell tree u))) j (n, omega (arith, lt), same)) (zero_closing q (own_cell (own_of tree plan v.place) q (first_cell tree u)))
+  in_total u q j among true (suc n, lt, same) = subst (IsClosing tree) (Contains-one (sets_to_zero q (own_cell (own_of tree plan v.place) q (first_cell tree u))) j (n, omega (arith, lt), same)) (zero_closing q (own_cell (own_of tree plan v.place) q (first_cell tree u)))
 
   closing_is : (j : Job) → Contains (closings_of tree plan v) j → IsClosing tree j
   closing_is j among = elim (Contains-append_cases (flat_map (keeping_of tree plan v) (own_loop tree plan v.place).privates) (flat_map (totalling_of tree plan v) (own_loop tree plan v.place).sums) j among) [
-    | inl kept ↦ let f = in_flat_map (keeping_of tree plan v) (own_loop tree plan v.place).privates j kept in in_keeping f.0 j f.1 (last_owner tree plan v) f.2
+    | inl kept ↦ let f = Contains-flat_map_cases (keeping_of tree plan v) (own_loop tree plan v.place).privates j kept in in_keeping f.0 j f.1 (last_owner tree plan v) f.2
     | inr summed ↦
-        let f = in_flat_map (totalling_of tree plan v) (own_loop tree plan v.place).sums j summed in
-        let g = in_flat_map (total_of tree plan v f.0) (range_with_len 0 plan.workers) j f.2 in
+        let f = Contains-flat_map_cases (totalling_of tree plan v) (own_loop tree plan v.place).sums j summed in
+        let g = Contains-flat_map_cases (total_of tree plan v f.0) (range_with_len 0 plan.workers) j f.2 in
         in_total f.0 g.0 j f.1 (has_stored tree plan v (first_cell tree f.0) g.0) g.2
   ]
 

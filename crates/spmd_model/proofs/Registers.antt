@@ -4,12 +4,12 @@ use Rattle.std.specs.Prelude.{slice_get}
 use Rattle.std.proofs.lemmas.List.{append-nil, append_assoc, length-map}
 use Rattle.std.proofs.lemmas.List.Sums.{fold-append}
 use Rattle.std.proofs.Math.Seq.{take-append_seam}
+use Rattle.list_lemmas.proofs.Appending.{take-behind}
 use Rattle.nest_model.specs.Memory.{cell_value}
 use Rattle.spmd_model.specs.Timelines.{Job, Machine, Moment, Word, boundary, job}
 use Rattle.spmd_model.specs.Acts.{await, load, store, add, print, boundary_acts, job_acts, last_act, moment_acts, acts_from, acts_of, act_at}
 use Rattle.spmd_model.specs.Sequential.{given_at, loads_by, memory_at, registers_at, registers_behind, stored_at, stored_by, value_at}
 use Rattle.spmd_model.specs.Lawful.{acts_in_front}
-use Rattle.spmd_model.proofs.Lists.{take-behind}
 use Rattle.spmd_model.proofs.ActLists.{acts_split, found}
 use Rattle.spmd_model.proofs.MomentActs.{IsChangeIn, IsLastIn, own_acts, tells}
 

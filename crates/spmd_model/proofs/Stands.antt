@@ -8,7 +8,7 @@ use Rattle.std.proofs.lemmas.List.{length-map}
 use Rattle.std.proofs.lemmas.List.Elements.{All-contains, Contains-append_cases, Contains-append_left, Contains-append_right}
 use Rattle.std.proofs.lemmas.Option.{slice_get-map, slice_get_within}
 use Rattle.list_lemmas.proofs.Gets.{get-front, get-behind}
-use Rattle.list_lemmas.proofs.Elements.{contains_at, Contains-filter}
+use Rattle.list_lemmas.proofs.Elements.{contains_at, Contains-filter, Contains-flat_map_cases, Contains-one}
 use Rattle.nest_tree.specs.Layout.{bounds_of, cell_count, element_count, first_cell, element_place}
 use Rattle.nest_tree.specs.Tree.{Printing, Work, assign, print, Statement, do_loop, work, continue, Tree, param_values}
 use Rattle.nest_tree.specs.WellFormed.{IsWellFormed}
@@ -45,17 +45,6 @@ pub in_map : {X Y : Type 0} (f : X → Y) (xs : List X) (y : Y) → Contains (ma
 in_map f [] y (k, lt, e) = absurd (omega (arith, lt))
 in_map f (x ∷ xs) y (zero, lt, e) = (x, (0, omega arith, refl), sym e)
 in_map f (x ∷ xs) y (suc k, lt, e) = let r = in_map f xs y (k, omega (arith, lt), e) in (r.0, (suc r.1.0, omega (arith, r.1.1), r.1.2), r.2)
-
-pub in_flat_map : {X Y : Type 0} (f : X → List Y) (xs : List X) (y : Y) → Contains (flat_map f xs) y → (x : X) × Contains xs x × Contains (f x) y
-in_flat_map f [] y (k, lt, e) = absurd (omega (arith, lt))
-in_flat_map f (x ∷ xs) y among = elim (Contains-append_cases (f x) (flat_map f xs) y among) [
-  | inl here ↦ (x, (0, omega arith, refl), here)
-  | inr later ↦ let r = in_flat_map f xs y later in (r.0, (suc r.1.0, omega (arith, r.1.1), r.1.2), r.2)
-]
-
-one_of : {X : Type 0} (x y : X) → Contains (x ∷ []) y → y ≡ x
-one_of x y (zero, lt, e) = sym e
-one_of x y (suc k, lt, e) = absurd (omega (arith, lt))
 
 pub any_there : {X : Type 0} (test : X → Bool) (xs : List X) → list_any test xs ≡ true → (k : ℕ) × (x : X) × (slice_get xs k ≡ Some x) × (test x ≡ true)
 any_there test [] e = absurd (true≢false (sym e))
@@ -321,7 +310,7 @@ module _ (tree : Tree) (plan : Plan) (e k : ℕ) (v : Visit) (formed : IsWellFor
   -- a job that moves an own cell of a processor to a shared one
   module _ (adds : Bool) (q c n : ℕ) (below : c < cell_count tree) (small : n < 32) (own_is : own_cell (own_of tree plan v.place) q c ≡ cell_count tree + (32 * q + n)) where
     moved : (d : ℕ) → Has (moves_to adds q (own_cell (own_of tree plan v.place) q c) c) d → (d ≡ own_cell (own_of tree plan v.place) q c) ⊎ (c ≡ d)
-    moved d (inl among) = inl (one_of (own_cell (own_of tree plan v.place) q c) d among)
+    moved d (inl among) = inl (sym (Contains-one (own_cell (own_of tree plan v.place) q c) d among))
     moved d (inr stores) = inr (some_is c d stores)
 
     moves_own : (d : ℕ) → Has (moves_to adds q (own_cell (own_of tree plan v.place) q c) c) d → cell_count tree ≤ d → (m : ℕ) × (m < 32) × (d ≡ cell_count tree + (32 * q + m))
@@ -420,7 +409,7 @@ module _ (tree : Tree) (plan : Plan) (e k : ℕ) (v : Visit) (formed : IsWellFor
         }
       where
         needed : (d n : ℕ) → own_cell (own_of tree plan v.place) q (first_cell tree u) ≡ cell_count tree + (32 * q + n) → Needs (moves_to true q (own_cell (own_of tree plan v.place) q (first_cell tree u)) (first_cell tree u)) d → cell_count tree ≤ d
-        needed d n own_is (inl h) = let is = one_of (own_cell (own_of tree plan v.place) q (first_cell tree u)) d h in omega (arith, is, own_is)
+        needed d n own_is (inl h) = let is = Contains-one (own_cell (own_of tree plan v.place) q (first_cell tree u)) d h in omega (arith, is, own_is)
         needed d n own_is (inr h) = absurd (true≢false h.1)
 
     zero_stands : Stands tree plan e v (sets_to_zero q (own_cell (own_of tree plan v.place) q (first_cell tree u)))
@@ -460,7 +449,7 @@ module _ (tree : Tree) (plan : Plan) (e k : ℕ) (v : Visit) (formed : IsWellFor
     where
       by : (w : Option ℕ) → last_owner tree plan v ≡ w → Contains (keeping (own_of tree plan v.place) (first_cell tree u) w) j → Stands tree plan e v j
       by None is h = absurd (nothing j h)
-      by (Some q) is h = subst (Stands tree plan e v) (sym (one_of (moves_to false q (own_cell (own_of tree plan v.place) q (first_cell tree u)) (first_cell tree u)) j h)) (keeping_stands fits stored u q among is)
+      by (Some q) is h = subst (Stands tree plan e v) (Contains-one (moves_to false q (own_cell (own_of tree plan v.place) q (first_cell tree u)) (first_cell tree u)) j h) (keeping_stands fits stored u q among is)
 
   pub in_total : (u q : ℕ) (j : Job) → Contains (own_loop tree plan v.place).sums u → Contains (total_of tree plan v u q) j → Stands tree plan e v j
   in_total u q j among there = by (has_stored tree plan v (first_cell tree u) q) refl there
@@ -468,14 +457,14 @@ module _ (tree : Tree) (plan : Plan) (e k : ℕ) (v : Visit) (formed : IsWellFor
       by : (b : Bool) → has_stored tree plan v (first_cell tree u) q ≡ b → Contains (totalling (own_of tree plan v.place) (first_cell tree u) q b) j → Stands tree plan e v j
       by false is h = absurd (nothing j h)
       by true is (zero, lt, same) = subst (Stands tree plan e v) same (total_stands u q among is)
-      by true is (suc n, lt, same) = subst (Stands tree plan e v) (sym (one_of (sets_to_zero q (own_cell (own_of tree plan v.place) q (first_cell tree u))) j (n, omega (arith, lt), same))) (zero_stands u q among is)
+      by true is (suc n, lt, same) = subst (Stands tree plan e v) (Contains-one (sets_to_zero q (own_cell (own_of tree plan v.place) q (first_cell tree u))) j (n, omega (arith, lt), same)) (zero_stands u q among is)
 
   closing_stands : IsFit tree plan → AreStoredFirst tree plan → (j : Job) → Contains (closings_of tree plan v) j → Stands tree plan e v j
   closing_stands fits stored j among = elim (Contains-append_cases (flat_map (keeping_of tree plan v) (own_loop tree plan v.place).privates) (flat_map (totalling_of tree plan v) (own_loop tree plan v.place).sums) j among) [
-    | inl kept ↦ let f = in_flat_map (keeping_of tree plan v) (own_loop tree plan v.place).privates j kept in in_keeping fits stored f.0 j f.1 f.2
+    | inl kept ↦ let f = Contains-flat_map_cases (keeping_of tree plan v) (own_loop tree plan v.place).privates j kept in in_keeping fits stored f.0 j f.1 f.2
     | inr summed ↦
-        let f = in_flat_map (totalling_of tree plan v) (own_loop tree plan v.place).sums j summed in
-        let g = in_flat_map (total_of tree plan v f.0) (range_with_len 0 plan.workers) j f.2 in
+        let f = Contains-flat_map_cases (totalling_of tree plan v) (own_loop tree plan v.place).sums j summed in
+        let g = Contains-flat_map_cases (total_of tree plan v f.0) (range_with_len 0 plan.workers) j f.2 in
         in_total f.0 g.0 j f.1 g.2
   ]
 
@@ -571,7 +560,7 @@ module _ (tree : Tree) (plan : Plan) (k : ℕ) (v : Visit) (formed : IsWellForme
           let o = own_in_phase tree plan k v formed fits at in
           let c = first_cell tree u in
           let own = own_one_is tree plan v o q c (inl (cell_there tree (own_loop tree plan v.place).privates u among)) in
-          subst (IsOwned tree plan) (sym (one_of (moves_to false q (own_cell (own_of tree plan v.place) q c) c) j h)) (record {
+          subst (IsOwned tree plan) (Contains-one (moves_to false q (own_cell (own_of tree plan v.place) q c) c) j h) (record {
             worker = last_worker q is;
             printed = λ none. absurd (stores_some c none);
             own = λ ranges. moves_own tree plan (1 + k) k v formed at o false q c own.0 (scalar_below tree u (private_is tree plan v o u among).1) own.1 own.2;
@@ -579,10 +568,10 @@ module _ (tree : Tree) (plan : Plan) (k : ℕ) (v : Visit) (formed : IsWellForme
 
   closing_owned : (j : Job) → Contains (closings_of tree plan v) j → IsOwned tree plan j
   closing_owned j among = elim (Contains-append_cases (flat_map (keeping_of tree plan v) (own_loop tree plan v.place).privates) (flat_map (totalling_of tree plan v) (own_loop tree plan v.place).sums) j among) [
-    | inl kept ↦ let f = in_flat_map (keeping_of tree plan v) (own_loop tree plan v.place).privates j kept in keeping_owned f.0 j f.1 f.2
+    | inl kept ↦ let f = Contains-flat_map_cases (keeping_of tree plan v) (own_loop tree plan v.place).privates j kept in keeping_owned f.0 j f.1 f.2
     | inr summed ↦
-        let f = in_flat_map (totalling_of tree plan v) (own_loop tree plan v.place).sums j summed in
-        let g = in_flat_map (total_of tree plan v f.0) (range_with_len 0 plan.workers) j f.2 in
+        let f = Contains-flat_map_cases (totalling_of tree plan v) (own_loop tree plan v.place).sums j summed in
+        let g = Contains-flat_map_cases (total_of tree plan v f.0) (range_with_len 0 plan.workers) j f.2 in
         owned_by j (in_total tree plan (1 + k) k v formed at (own_in_phase tree plan k v formed fits at) f.0 g.0 j f.1 g.2)
   ]
 

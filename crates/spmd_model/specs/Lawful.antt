@@ -43,6 +43,10 @@ pub record IsLawful (m : Machine) (cells : List ℤ) (at : ℕ → ℕ) : Type 0
   pub holds : (cell : ℕ) → cell < m.cells → cell_value cells cell ≡ last_value m at cell
   pub awaited : (w : Word) (p i q n : ℕ) → p < m.workers → i < at p → act_at m p i ≡ Some (await w q n) → (n ≡ 0) ⊎ IsPosted (acts_of m q) w n (at q)
 
+-- places of which p's is another
+abbrev pub put : (ℕ → ℕ) → ℕ → ℕ → ℕ → ℕ
+put at p n q = if q == p then n else at q
+
 -- processor p goes on to its act n, and the others stay
 pub record Moves (before after : ℕ → ℕ) (p n : ℕ) : Type 0 where
   pub here : after p ≡ n

@@ -5,8 +5,9 @@ use denote.Struct.Declared.{shape}
 use Rattle.std.proofs.Crossing.{crosses}
 use Rattle.atomic_table.proofs.send_lease.SendLease.TheSendSync as lease
 use Rattle.atomic_table.proofs.shared.Shared.TheSendSync as shared
+use Rattle.nest_tree.proofs.Crosses.{Program-sync}
 use Rattle.spmd_model.proofs.style.Style.TheSendSync as style
-use Rattle.fork_join.proofs.Crosses.{Executor-field-send, Plan-sync, Program-sync, Turns-field-send}
+use Rattle.fork_join.proofs.Crosses.{Executor-field-send, Plan-sync, Turns-field-send}
 use Rattle.shared_words.proofs.cells.CellSeat.TheSendSync as seat
 use Rattle.shared_words.specs.contracts.cells.Cells as Cells
 use Rattle.spmd_workers.proofs.patience.Patience.TheSendSync as patience

@@ -1,5 +1,5 @@
 -- What a worker's calls rest on: counters that come next, the awaits of a boundary at once, and strips.
-use Rattle.std.proofs.Common.{◌≡◌, ℕ, suc, true, false, List, [], ◌∷◌, ◌++◌, map, length, Option, Some, None, if◌then◌else◌, refl, ap, sym, subst, ◌∙◌, inl, inr, arith}
+use Rattle.std.proofs.Common.{◌≡◌, ℕ, suc, true, false, List, [], ◌∷◌, ◌++◌, map, length, Option, Some, None, if◌then◌else◌, refl, ap, sym, ◌∙◌, inl, inr, arith}
 use Rattle.std.specs.Option.{MatchOption}
 use Rattle.nest_tree.specs.Tree.{Tree}
 use Rattle.nest_model.specs.Instances.{Instance}

@@ -1,5 +1,5 @@
 -- What stands first of the turns that are left.
-use Rattle.std.proofs.Common.{◌≡◌, ◌&&◌, ℕ, suc, ◌+◌, ◌-◌, ◌<◌, ◌≤◌, nat_lt, Bool, true, false, true≢false, List, [], ◌∷◌, ◌++◌, map, length, Option, Some, None, if◌then◌else◌, refl, ap, sym, subst, ◌∙◌, arith, append_assoc}
+use Rattle.std.proofs.Common.{◌≡◌, ◌&&◌, ℕ, suc, ◌+◌, ◌-◌, ◌<◌, nat_lt, Bool, true, false, true≢false, List, [], ◌∷◌, ◌++◌, map, Option, Some, None, if◌then◌else◌, refl, ap, sym, ◌∙◌, arith}
 use Rattle.std.specs.Prelude.{slice_get}
 use Rattle.std.specs.List.{range_with_len}
 use Rattle.nest_tree.specs.Tree.{Tree}
@@ -10,12 +10,10 @@ use Rattle.sync_plan.specs.declared.plan.Kind.{Kind}
 use Rattle.sync_plan.specs.declared.plan.Kind.TheVariants.{Nothing, Producer, Left, Right, Both, Barrier, Join}
 use Rattle.sync_plan.specs.Boundaries.{gathers, is_barrier, kind_before}
 use Rattle.sync_plan.specs.declared.plan.Plan.{Plan}
-use Rattle.sync_plan.specs.Waits.{posts_at, waits_for}
-use Rattle.spmd_model.specs.Deeds.{owned_by}
 use Rattle.spmd_model.specs.Timelines.{counter}
 use Rattle.spmd_model.specs.declared.style.Style.{Style}
 use Rattle.spmd_model.specs.declared.style.Style.TheVariants.{Arrive, Dissemination}
-use Rattle.turns.specs.CounterTurns.{CounterTurn, posts, awaits, begins, works, boundary_at, boundary_by, counter_turns, boundary_turns, without_beginnings}
+use Rattle.turns.specs.CounterTurns.{CounterTurn, posts, awaits, begins, works, boundary_at, boundary_by, without_beginnings}
 use Rattle.turns.specs.CountersLeft.{counters_left}
 use Rattle.turns.specs.declared.counters.Boundary.TheVariants as Boundaries
 use Rattle.turns.specs.Turns.{Turn, sets, waits, runs, closes, Standing, all_rounds, begun, behind, closed, gathered, has_signals, is_signalled, is_watched, no_phase, none_pending, place_of, places_pending, round_turn, rounds_before, turns_by}

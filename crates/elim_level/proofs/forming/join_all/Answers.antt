@@ -3,8 +3,9 @@ use Rattle.std.specs.Bool.{MatchBool}
 use Rattle.std.specs.List.{All, Contains}
 use Rattle.std.proofs.lemmas.List.{take_more, take_all}
 use Rattle.std.proofs.lemmas.List.Elements.{Contains-get_or}
+use Rattle.list_lemmas.proofs.Elements.{Contains-take}
 use Rattle.elim_level.specs.Gathering.{IsOpposed, HasApart, IsJoint, IsJoined, IsGathered}
-use Rattle.elim_level.proofs.Gathered.{Contains-take, IsGathered-more, HasApart-gathered}
+use Rattle.elim_level.proofs.Gathered.{IsGathered-more, HasApart-gathered}
 use Rattle.elim_level.proofs.forming.join_all.Goals as goal
 
 pub join_pairs-requires-clause-opposed : goal.join_pairs-requires-clause-opposed

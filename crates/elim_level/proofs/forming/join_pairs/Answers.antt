@@ -2,8 +2,9 @@ use Rattle.std.proofs.Common.{◌≡◌, ◌+◌, ◌<◌, take, length, [], ◌
 use Rattle.std.specs.List.{Contains}
 use Rattle.std.proofs.lemmas.List.{take_more}
 use Rattle.std.proofs.lemmas.List.Elements.{Contains-get_or}
+use Rattle.list_lemmas.proofs.Elements.{Contains-take}
 use Rattle.elim_level.specs.Gathering.{HasApart, IsJoint, IsJoined}
-use Rattle.elim_level.proofs.Gathered.{Contains-take, IsJoined-more, HasApart-more, apart_from_rows}
+use Rattle.elim_level.proofs.Gathered.{IsJoined-more, HasApart-more, apart_from_rows}
 use Rattle.elim_level.proofs.forming.join_pairs.Goals as goal
 
 pub returns-then-len-gt-MOST_ROWS-clause-joined : goal.returns-then-len-gt-MOST_ROWS-clause-joined

@@ -1,5 +1,5 @@
 use Rattle.std.proofs.Common.{◌≡◌, Some, None, subst, sym, ap, ◌∙◌}
-use Rattle.nest_tree.specs.Limits.{IsWithinLimits, first_limit}
+use Rattle.nest_tree.specs.Limits.{first_limit}
 use Rattle.nest_tree.specs.WellFormed.{IsWellFormed}
 use Rattle.house_tests.proofs.StraightLine as lines
 use Rattle.house_tests.proofs.straight_line.line.Goals as goal

@@ -6,6 +6,7 @@ use Rattle.std.specs.declared.result.Result.{Result}
 use denote.Param.Send.{sendable}
 use Rattle.rayon.proofs.ListFacts.{IfOk-then}
 use Rattle.rayon.proofs.ToStd.{slice-AllZip}
+use Rattle.nest_tree.proofs.Crosses.{Program-sync}
 use Rattle.nest_tree.specs.Tree.{Tree}
 use Rattle.nest_tree.specs.View.{tree_of}
 use Rattle.nest_tree.specs.declared.program.Program.{Program}
@@ -15,7 +16,7 @@ use Rattle.comm_system.specs.GroupViews.{group_seen}
 use Rattle.comm_system.specs.declared.group.Group.{Group}
 use Rattle.plan_checker.specs.Certificates.{fault_in}
 use Rattle.plan_checker.specs.declared.refusal.PlanRefusal.{PlanRefusal}
-use Rattle.plan_checker.proofs.Crosses.{Group-sync, Program-sync}
+use Rattle.plan_checker.proofs.Crosses.{Group-sync}
 use Rattle.plan_checker.proofs.certificates.faults.Goals as goal
 
 pub with_min_len-requires-send-Self : goal.with_min_len-requires-send-Self

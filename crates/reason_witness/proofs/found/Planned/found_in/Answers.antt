@@ -8,8 +8,9 @@ use Rattle.nest_tree.specs.View.{tree_of}
 use Rattle.comm_system.specs.GroupViews.{group_seen}
 use Rattle.comm_system.specs.Subjects.{obligations_in}
 use Rattle.comm_system.proofs.Lists.{contains_nothing}
+use Rattle.list_lemmas.proofs.Elements.{Contains-one}
 use Rattle.reason_witness.specs.Findings.{AreCertified}
-use Rattle.reason_witness.proofs.Searched.{certified_push, found_more, from_one, searched_none}
+use Rattle.reason_witness.proofs.Searched.{certified_push, found_more, searched_none}
 use Rattle.reason_witness.proofs.found.Planned.found_in.Goals as goal
 
 pub loop-obligation-init : goal.loop-obligation-init
@@ -27,7 +28,7 @@ returns-then-is_some c =
     let listed : Contains all.items o = (length done, turn.0, sym turn.1) in
     let there = subst (λ os. Contains os o) c.in_ok-all.ensures listed in
     let some : is_some c.in_ok-found.found ≡ true = sym c.is_some.ensures ∙ c.if-is_some.true in
-    found_more true c.args.self.now.is_whole (o ∷ []) those c.args.wanted.now c.in_ok-found.found some (λ p one. subst (Contains those) (from_one o p one) there) c.in_ok-found.ensures
+    found_more true c.args.self.now.is_whole (o ∷ []) those c.args.wanted.now c.in_ok-found.found some (λ p one. subst (Contains those) (Contains-one o p one) there) c.in_ok-found.ensures
 
 pub loop-obligation-preserved : goal.loop-obligation-preserved
 loop-obligation-preserved c =

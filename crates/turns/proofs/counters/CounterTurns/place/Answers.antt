@@ -1,4 +1,4 @@
-use Rattle.std.proofs.Common.{◌≡◌, false, ◌||◌, ◌==◌, not, Some, None, Option, [], suc, ℕ, true, List, ◌∷◌, ◌++◌, map, refl, inl, inr, sym, subst, ap, ◌∙◌, arith}
+use Rattle.std.proofs.Common.{◌≡◌, false, Some, None, Option, [], suc, ℕ, true, List, ◌∷◌, ◌++◌, map, refl, inl, inr, sym, subst, ap, ◌∙◌, arith}
 use Rattle.std.proofs.lemmas.Bool.{cases_Bool, cases_lt}
 use Rattle.nest_walk.specs.InstancesLeft.{instances_left}
 use Rattle.owner_partition.specs.PhasesLeft.{phases_left, phases_passed}

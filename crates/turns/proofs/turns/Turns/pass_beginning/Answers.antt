@@ -1,11 +1,11 @@
-use Rattle.std.proofs.Common.{◌≡◌, ◌∷◌, ◌+◌, ◌-◌, ◌*◌, ◌≤◌, suc, ℕ, Bool, Some, true, false, true≢false, length, if◌then◌else◌, ap, sym, subst, ◌∙◌, arith}
+use Rattle.std.proofs.Common.{◌≡◌, ◌∷◌, ◌+◌, ◌-◌, ◌*◌, ◌≤◌, suc, ℕ, Bool, true, false, true≢false, length, if◌then◌else◌, ap, sym, subst, ◌∙◌, arith}
 use Rattle.std.specs.Int.{from_bool}
 use Rattle.std.proofs.Math.Nat.{mul-le-mul}
 use Rattle.nest_tree.specs.Limits.{most_work}
 use Rattle.sync_plan.specs.Own.{own_loop}
 use Rattle.own_cells.specs.OwnCells.{AreFew}
 use Rattle.turns.specs.CounterTurns.{begins}
-use Rattle.turns.specs.CountersLeft.{IsBegun, counters_left}
+use Rattle.turns.specs.CountersLeft.{counters_left}
 use Rattle.turns.proofs.CounterLists.{some_turn}
 use Rattle.turns.specs.Turns.{has_signals, has_signals_at, place_of}
 use Rattle.turns.specs.TurnsLeft.{turns_plan, turns_tree}
