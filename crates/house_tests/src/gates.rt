@@ -16,7 +16,7 @@ use std::thread::Threads;
 
 // So often a gate looks for a worker that is to come, which on a busy machine may take seconds, and
 // for one that isn't to, before it lets a worker pass.
-const PATIENCE: u32 = 400_000_000;
+const PATIENCE: u32 = 4_000_000_000;
 
 const GLANCE: u32 = 1_000_000;
 
