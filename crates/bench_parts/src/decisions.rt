@@ -5,7 +5,7 @@ ghost use Rattle.farkas_cert.specs.declared.certificate.CertRefusal.TheVariants 
 ghost use Rattle.farkas_cert.specs.declared.certificate.CertRefusal.{CertRefusal};
 ghost use Rattle.bench_parts.specs.declared.ending.Ending.TheVariants as endings;
 ghost use Rattle.bench_parts.specs.declared.line.LineFault.TheVariants as faults;
-ghost use Rattle.bench_parts.specs.declared.decisions.Stop.TheVariants as stops;
+ghost use Rattle.bench_parts.specs.declared.decisions.Failure.TheVariants as stops;
 
 use crate::ending::Ending;
 use crate::line::{LineFault, read_line};
@@ -19,61 +19,61 @@ use std::time::Instant;
 
 /// Why a run stops before the end of the input.
 #[derive(Debug, Drop)]
-enum Stop {
+enum Failure {
     Line(LineFault),
     Certificate(CertRefusal),
     Fault,
     NoMemory,
 }
 
-impl From<io::Error> for Stop {
+impl From<io::Error> for Failure {
     ghost from_gives = { λ _ stop. (stop ≡ stops.NoMemory) ⊎ (stop ≡ stops.Fault) };
 
-    fn from(error: io::Error) -> Stop {
+    fn from(error: io::Error) -> Failure {
         if error.kind() == ErrorKind::OutOfMemory {
-            Stop::NoMemory
+            Failure::NoMemory
         } else {
-            Stop::Fault
+            Failure::Fault
         }
     }
 }
 
-impl From<AllocError> for Stop {
+impl From<AllocError> for Failure {
     ghost from_gives = { λ _ stop. stop ≡ stops.NoMemory };
 
-    fn from(_error: AllocError) -> Stop {
-        Stop::NoMemory
+    fn from(_error: AllocError) -> Failure {
+        Failure::NoMemory
     }
 }
 
-impl From<NoMemory> for Stop {
+impl From<NoMemory> for Failure {
     ghost from_gives = { λ _ stop. stop ≡ stops.NoMemory };
 
-    fn from(_error: NoMemory) -> Stop {
-        Stop::NoMemory
+    fn from(_error: NoMemory) -> Failure {
+        Failure::NoMemory
     }
 }
 
-impl From<LineFault> for Stop {
+impl From<LineFault> for Failure {
     ghost from_gives = { λ fault stop. (fault ≡ faults.NoMemory → stop ≡ stops.NoMemory)
         × (fault ≢ faults.NoMemory → stop ≡ stops.Line fault) };
 
-    fn from(fault: LineFault) -> Stop {
+    fn from(fault: LineFault) -> Failure {
         match fault {
-            LineFault::NoMemory => Stop::NoMemory,
-            fault => Stop::Line(fault),
+            LineFault::NoMemory => Failure::NoMemory,
+            fault => Failure::Line(fault),
         }
     }
 }
 
-impl From<CertRefusal> for Stop {
+impl From<CertRefusal> for Failure {
     ghost from_gives = { λ refusal stop. (refusal ≡ refusals.NoMemory → stop ≡ stops.NoMemory)
         × (refusal ≢ refusals.NoMemory → stop ≡ stops.Certificate refusal) };
 
-    fn from(refusal: CertRefusal) -> Stop {
+    fn from(refusal: CertRefusal) -> Failure {
         match refusal {
-            CertRefusal::NoMemory => Stop::NoMemory,
-            refusal => Stop::Certificate(refusal),
+            CertRefusal::NoMemory => Failure::NoMemory,
+            refusal => Failure::Certificate(refusal),
         }
     }
 }
@@ -86,13 +86,13 @@ pub fn decisions(rt: &HostRuntime, times: bool) -> Ending
     let mut number = 0;
     match decide_all(rt, times, &mut number) {
         Ok(()) => Ending::Done,
-        Err(Stop::Line(fault)) => told(println!(rt; "LINE {number}: {fault}"), Ending::Refused),
-        Err(Stop::Certificate(refusal)) => told(
+        Err(Failure::Line(fault)) => told(println!(rt; "LINE {number}: {fault}"), Ending::Refused),
+        Err(Failure::Certificate(refusal)) => told(
             println!(rt; "LINE {number}: the certificate was refused: {refusal}"),
             Ending::BadCertificate,
         ),
-        Err(Stop::Fault) => Ending::Fault,
-        Err(Stop::NoMemory) => Ending::NoMemory,
+        Err(Failure::Fault) => Ending::Fault,
+        Err(Failure::NoMemory) => Ending::NoMemory,
     }
 }
 
@@ -107,7 +107,7 @@ fn told(written: io::Result<()>, ending: Ending) -> Ending
 }
 
 // Counts the lines in `number`, which is that of the line at fault, if there is one.
-fn decide_all(rt: &HostRuntime, times: bool, number: &mut u64) -> Result<(), Stop>
+fn decide_all(rt: &HostRuntime, times: bool, number: &mut u64) -> Result<(), Failure>
     ensures { IfErr result (λ stop. (refusal : CertRefusal) → stop ≢ stops.Certificate refusal) }
 {
     let alloc = rt.alloc();
@@ -131,12 +131,12 @@ fn decide_all(rt: &HostRuntime, times: bool, number: &mut u64) -> Result<(), Sto
     }
     match open {
         None => Ok(()),
-        Some(task) => Err(Stop::Line(LineFault::MissingRows(task.missing))),
+        Some(task) => Err(Failure::Line(LineFault::MissingRows(task.missing))),
     }
 }
 
 // Decides a system and writes its line.
-fn finish(rt: &HostRuntime, times: bool, task: &Task) -> Result<(), Stop>
+fn finish(rt: &HostRuntime, times: bool, task: &Task) -> Result<(), Failure>
     ensures { IfErr result (λ stop. (refusal : CertRefusal) → stop ≢ stops.Certificate refusal) }
 {
     let alloc = rt.alloc();

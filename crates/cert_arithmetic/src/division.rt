@@ -65,9 +65,20 @@ fn small_floor_quotient(number: i64, divisor: i64) -> i128
     i128::from(number.div_euclid(divisor))
 }
 
-/// The quotient, rounded down: with no division by 1, and by one of 64 bits where that does.
+/// The quotient, rounded down: by a division of 64 bits where that does.
+pub fn floor_quotient(number: i128, divisor: i128) -> i128
+    requires { pos 1 ≤ℤ divisor }
+    ensures { result ≡ int_div_euclid number divisor }
+{
+    match (i64::try_from(number), i64::try_from(divisor)) {
+        (Ok(number), Ok(divisor)) => small_floor_quotient(number, divisor),
+        _ => number.div_euclid(divisor),
+    }
+}
+
+/// The same, counted, and with no division by 1.
 #[tactic(auto, using(crate::proofs::ByOne::floor_by_one))]
-pub fn floor_quotient<L: Ledger>(number: i128, divisor: i128, steps: &mut Steps<L>) -> i128
+pub fn counted_quotient<L: Ledger>(number: i128, divisor: i128, steps: &mut Steps<L>) -> i128
     requires { pos 1 ≤ℤ divisor }
     ensures quotient { result ≡ int_div_euclid number divisor }
     ensures counted { steps.new ≡ steps.old + 1 }
@@ -76,10 +87,7 @@ pub fn floor_quotient<L: Ledger>(number: i128, divisor: i128, steps: &mut Steps<
     if divisor == 1 {
         return number;
     }
-    match (i64::try_from(number), i64::try_from(divisor)) {
-        (Ok(number), Ok(divisor)) => small_floor_quotient(number, divisor),
-        _ => number.div_euclid(divisor),
-    }
+    floor_quotient(number, divisor)
 }
 
 /// Divides each number, if the divisor divides them all. Where it doesn't, those in front of the

@@ -6,23 +6,11 @@ ghost use Rattle.std.specs.List.{All};
 ghost use Rattle.farkas_cert.specs.Combination.{is_narrow as narrow};
 ghost use Rattle.elim_rows.specs.Reduction.{IsCommonDivisor, IsReducedBy};
 
+use cert_arithmetic::division::floor_quotient;
+use cert_arithmetic::divisors::small_common_divisor;
+
 /// Numbers below this have 64 bits.
 const WORD: u128 = 1 << 64;
-
-// The greatest common divisor of numbers of 64 bits, by Euclid's algorithm.
-fn small_common_divisor(a: u64, b: u64) -> u64
-    ensures common { IsGcd a b result }
-    ensures size { result ≤ max a b }
-{
-    let mut x = a;
-    let mut y = b;
-    while y != 0 {
-        let rest = x % y;
-        x = y;
-        y = rest;
-    }
-    x
-}
 
 // The greatest common divisor of any two numbers, by Euclid's algorithm.
 fn wide_common_divisor(a: u128, b: u128) -> u128
@@ -105,26 +93,6 @@ fn quotient(number: i128, divisor: i128) -> i128
     }
 }
 
-// The quotient of numbers of 64 bits, rounded down.
-#[inline(always)]
-fn small_floor_quotient(number: i64, divisor: i64) -> i128
-    requires { pos 1 ≤ℤ divisor }
-    ensures { result ≡ int_div_euclid number divisor }
-{
-    i128::from(number.div_euclid(divisor))
-}
-
-// The quotient, rounded down: by a division of 64 bits where that does.
-fn floor_quotient(number: i128, divisor: i128) -> i128
-    requires { pos 1 ≤ℤ divisor }
-    ensures { result ≡ int_div_euclid number divisor }
-{
-    match (i64::try_from(number), i64::try_from(divisor)) {
-        (Ok(number), Ok(divisor)) => small_floor_quotient(number, divisor),
-        _ => number.div_euclid(divisor),
-    }
-}
-
 // Divides each number, with the remainder dropped.
 fn divide(numbers: &mut [i128], divisor: i128)
     requires { pos 1 ≤ℤ divisor }
@@ -135,7 +103,7 @@ fn divide(numbers: &mut [i128], divisor: i128)
     }
 }
 
-fn divide_all(numbers: &mut Vec<i128>, divisor: i128)
+fn divide_each(numbers: &mut Vec<i128>, divisor: i128)
     requires { pos 1 ≤ℤ divisor }
     ensures { numbers.new.items ≡ map (λ a. int_div a divisor) numbers.old.items }
 {
@@ -159,6 +127,6 @@ pub fn reduce(coefs: &mut Vec<i128>, bound: i128) -> (i128, i128)
         return (bound, 1);
     }
     let divisor = divisor as i128;
-    divide_all(coefs, divisor);
+    divide_each(coefs, divisor);
     (floor_quotient(bound, divisor), divisor)
 }

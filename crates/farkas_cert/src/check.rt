@@ -15,7 +15,7 @@ use crate::certificate::{CertRefusal, Certificate, Step};
 use crate::system::{Coefs, Row, System};
 use crate::uses::Uses;
 use cert_arithmetic::Steps;
-use cert_arithmetic::division::floor_quotient;
+use cert_arithmetic::division::counted_quotient;
 use cert_arithmetic::terms::{has_negative, names_bad_row, with_product};
 use std::alloc::Global;
 use std::marker::Brand;
@@ -129,7 +129,7 @@ fn divided<L: Ledger>(mut row: Row, divisor: i128, steps: &mut Steps<L>) -> Opti
     if divisor < 1 || !row.coefs.divide(divisor, steps) {
         return None;
     }
-    row.bound = floor_quotient(row.bound, divisor, steps);
+    row.bound = counted_quotient(row.bound, divisor, steps);
     Some(row)
 }
 

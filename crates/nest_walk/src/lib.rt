@@ -36,4 +36,4 @@ pub use instances::Instances;
 pub use path::{MOST_LOOPS, Path};
 pub use strip::Strip;
 pub use table::{CellTable, LoadCells, WorkCells};
-pub use trips::{Trips, trip_count};
+pub use trips::{Trips, small_value, trip_count};

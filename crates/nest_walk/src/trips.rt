@@ -86,8 +86,8 @@ impl Trips {
     }
 }
 
-// The value of a form on a path, where it is small.
-fn small_value(program: &Program, form: &Affine, path: &Path) -> i64
+/// The value of a form on a path, where it is small.
+pub fn small_value(program: &Program, form: &Affine, path: &Path) -> i64
     requires numbered { IsTrue
         (list_all (λ (r : Round). is_number_of (loops_of (tree_of program.now).items) r.number)
         (rounds_of path.now)) }

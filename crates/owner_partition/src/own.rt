@@ -27,7 +27,7 @@ use crate::anchor::{Anchor, Dist};
 use crate::exact::exact_on;
 use crate::own_trips::{Strided, own_trips};
 use nest_tree::{Affine, Item, Nest, Program};
-use nest_walk::{Instances, Path, Stop, Trips, trip_count, value_at};
+use nest_walk::{Instances, Path, Stop, Trips, small_value, trip_count};
 
 /// The instances of a phase that a processor owns, in sequential order, as stops of a walk.
 pub type OwnStops<'a> = Instances<'a>;
@@ -121,20 +121,6 @@ fn multiple(count: u64, m3: i64) -> i64
     count as i64 * m3
 }
 
-// The value of a form on a path, where it is small.
-fn small_value(program: &Program, path: &Path, form: &Affine) -> i64
-    requires numbered { IsTrue
-        (list_all (λ (r : Round). is_number_of (loops_of (tree_of program.now).items) r.number)
-        (rounds_of path.now)) }
-    requires small { IsTrue
-        (is_small (form_value form.now (loops_in (tree_of program.now) (rounds_of path.now))
-        (param_values (tree_of program.now)))) }
-    ensures { result ≡ form_value form.now (loops_in (tree_of program.now) (rounds_of path.now))
-        (param_values (tree_of program.now)) }
-{
-    value_at(form, path, &program.params)
-}
-
 // The value of a form on a path.
 pub(crate) fn exact_value(program: &Program, path: &Path, form: &Affine) -> i128
     requires numbered { IsTrue
@@ -188,8 +174,8 @@ fn own_values(
         ≡ own_values (param_values (tree_of program.now)) anchor.now workers p (head_of nest.now)
         (loops_in (tree_of program.now) (rounds_of path.now)) }
 {
-    let m1 = small_value(program, path, &nest.m1);
-    let m2 = small_value(program, path, &nest.m2);
+    let m1 = small_value(program, &nest.m1, path);
+    let m2 = small_value(program, &nest.m2, path);
     let coefficient = coefficient(anchor.form.loops(), nest.number);
     let mut before = *path;
     before.push(nest.number, 0);

@@ -7,8 +7,8 @@ use Rattle.farkas_cert.specs.Inequalities.{Inequalities}
 use Rattle.farkas_cert.specs.Named.{steps_name}
 use Rattle.presolve.specs.declared.presolved.Checked.{Checked}
 use Rattle.presolve.specs.declared.presolved.Checked.TheVariants.{Good, Bad, LeftOut as NotKept}
-use Rattle.presolve.specs.declared.renumbering.Stop.{Stop}
-use Rattle.presolve.specs.declared.renumbering.Stop.TheVariants.{LeftOut, NoMemory}
+use Rattle.presolve.specs.declared.renumbering.Untold.{Untold}
+use Rattle.presolve.specs.declared.renumbering.Untold.TheVariants.{LeftOut, NoMemory}
 use Rattle.presolve.specs.Columns.{is_kept}
 use Rattle.presolve.specs.Presolution.{Presolution}
 use Rattle.presolve.specs.Renamed.{fault_in_64}
@@ -20,7 +20,7 @@ pub record IsLeftOut (count : ℕ) (numbers : List ℕ) (r : ℕ) : Type 0 where
   pub not_kept : is_kept numbers r ≡ false
 
 -- such a row is named
-abbrev pub StopsOver : (ℕ → Bool) → ℕ → List ℕ → Stop → Type 0
+abbrev pub StopsOver : (ℕ → Bool) → ℕ → List ℕ → Untold → Type 0
 StopsOver names count numbers (LeftOut r) = IsLeftOut count numbers r × (names r ≡ true)
 StopsOver names count numbers NoMemory = Unit {0}
 

@@ -1,6 +1,6 @@
 // A system without rows and columns that play no part.
 
-use crate::renumbering::{Stop, kept_certificate, whole_certificate, whole_number};
+use crate::renumbering::{Untold, kept_certificate, whole_certificate, whole_number};
 use farkas_cert::{CertRefusal, Certificate, NarrowSystem, Row, Rows, System, check_cert};
 use std::alloc::{AllocError, Global};
 use std::marker::Model;
@@ -165,8 +165,8 @@ impl Presolved {
     {
         match kept_certificate(alloc, self.count, self.numbers.as_slice(), certificate) {
             Ok(kept) => self.check_kept(alloc, &kept),
-            Err(Stop::LeftOut(number)) => Ok(Checked::LeftOut(number)),
-            Err(Stop::NoMemory) => Err(AllocError),
+            Err(Untold::LeftOut(number)) => Ok(Checked::LeftOut(number)),
+            Err(Untold::NoMemory) => Err(AllocError),
         }
     }
 

@@ -6,32 +6,32 @@ ghost use Rattle.presolve.specs.Answers.{IsLeftOut, StopsOver};
 ghost use Rattle.presolve.specs.Columns.{AreRising};
 ghost use Rattle.presolve.specs.Renamed.{number_in_64, renamed, renamed_step, renamed_terms};
 ghost use Rattle.presolve.specs.Rows.{NamesKept, StepsNameKept, kept_number as number_kept};
-ghost use Rattle.presolve.specs.declared.renumbering.Stop.TheVariants.{NoMemory};
+ghost use Rattle.presolve.specs.declared.renumbering.Untold.TheVariants.{NoMemory};
 
 use farkas_cert::{Certificate, Step, StepList, Terms};
 use std::alloc::{AllocError, AllocFailed, Global};
 
 // Why a certificate of the whole system isn't told in the numbers of the rows that are kept.
 #[derive(Clone, Copy, PartialEq, Eq)]
-pub(crate) enum Stop {
+pub(crate) enum Untold {
     // It names this row, which is left out.
     LeftOut(u64),
     NoMemory,
 }
 
-impl From<AllocError> for Stop {
+impl From<AllocError> for Untold {
     ghost from_gives = { λ _ stop. stop ≡ NoMemory };
 
-    fn from(_error: AllocError) -> Stop {
-        Stop::NoMemory
+    fn from(_error: AllocError) -> Untold {
+        Untold::NoMemory
     }
 }
 
-impl<T: Drop> From<AllocFailed<T>> for Stop {
+impl<T: Drop> From<AllocFailed<T>> for Untold {
     ghost from_gives = { λ _ stop. stop ≡ NoMemory };
 
-    fn from(_failed: AllocFailed<T>) -> Stop {
-        Stop::NoMemory
+    fn from(_failed: AllocFailed<T>) -> Untold {
+        Untold::NoMemory
     }
 }
 
@@ -123,7 +123,7 @@ fn kept_terms(
     count: u64,
     numbers: &[u64],
     terms: &[(u64, i128)],
-) -> Result<Vec<(u64, i128)>, Stop>
+) -> Result<Vec<(u64, i128)>, Untold>
     requires { length numbers.now ≤ count }
     ensures kept { AreRising 1 (count + 1) numbers.now → IfOk result (λ made. (made.items
         ≡ renamed_terms (number_kept count numbers.now) terms.now)
@@ -135,7 +135,7 @@ fn kept_terms(
     for term in terms {
         match kept_number(count, numbers, term.0) {
             Some(number) => made.push((number, term.1))?,
-            None => return Err(Stop::LeftOut(term.0)),
+            None => return Err(Untold::LeftOut(term.0)),
         }
     }
     Ok(made)
@@ -147,7 +147,7 @@ pub(crate) fn kept_certificate(
     count: u64,
     numbers: &[u64],
     certificate: &Certificate,
-) -> Result<Certificate, Stop>
+) -> Result<Certificate, Untold>
     requires { length numbers.now ≤ count }
     ensures kept { AreRising 1 (count + 1) numbers.now → IfOk result (λ made. (made
         ≡ renamed (number_kept count numbers.now) certificate.now)

@@ -1,8 +1,8 @@
 // Equalities, and whole changes of variables.
 
+use crate::early_end::EarlyEnd;
 use crate::flat::{Flat, number_at};
 use crate::row::{Bounds, WorkRow, are_opposite, hash_of, weight_of};
-use crate::stop::Stop;
 use crate::values::Change;
 use crate::work::Work;
 use std::alloc::{AllocError, Global};
@@ -142,16 +142,20 @@ impl Work {
     }
 
     // Takes the row of this place away.
-    fn take(&mut self, place: usize) -> Result<WorkRow, Stop> {
+    fn take(&mut self, place: usize) -> Result<WorkRow, EarlyEnd> {
         if place < self.rows.len() {
             Ok(self.rows.remove(place))
         } else {
-            Err(Stop::GivenUp)
+            Err(EarlyEnd::GivenUp)
         }
     }
 
     // Takes the row at a place away, with its opposite: first the one in which the variable's coefficient is above 0.
-    fn take_equality(&mut self, place: usize, variable: usize) -> Result<(WorkRow, WorkRow), Stop> {
+    fn take_equality(
+        &mut self,
+        place: usize,
+        variable: usize,
+    ) -> Result<(WorkRow, WorkRow), EarlyEnd> {
         let row = self.take(place)?;
         let coefs = self.flat.row(row.start);
         let wanted = row.hash.wrapping_neg();
@@ -159,7 +163,7 @@ impl Work {
             other.hash == wanted && are_opposite(self.flat.row(other.start), coefs)
         })
         else {
-            return Err(Stop::GivenUp);
+            return Err(EarlyEnd::GivenUp);
         };
         let other = self.take(opposite)?;
         if self.flat.coef(row.start, variable) > 0 {
@@ -183,7 +187,7 @@ impl Work {
     }
 
     // Replaces a variable in each row by what an equality says of it, where its coefficient is 1 or -1.
-    fn substitute(&mut self, place: usize, variable: usize) -> Result<(), Stop> {
+    fn substitute(&mut self, place: usize, variable: usize) -> Result<(), EarlyEnd> {
         let (upper, lower) = self.take_equality(place, variable)?;
         let bounds = self.take_with(variable)?;
         for above in bounds.first..bounds.middle {
@@ -200,36 +204,36 @@ impl Work {
     }
 
     // Changes the variables so that the row's coefficients but the least of them get less than half its size.
-    fn change_variables(&mut self, alloc: Global, place: usize) -> Result<(), Stop> {
+    fn change_variables(&mut self, alloc: Global, place: usize) -> Result<(), EarlyEnd> {
         let Some(row) = self.rows.get(place) else {
-            return Err(Stop::GivenUp);
+            return Err(EarlyEnd::GivenUp);
         };
         let coefs = self.flat.row(row.start);
         let Some(variable) = least_place(coefs) else {
-            return Err(Stop::GivenUp);
+            return Err(EarlyEnd::GivenUp);
         };
         let Some(factors) = factors_of(alloc, coefs, variable)? else {
-            return Err(Stop::GivenUp);
+            return Err(EarlyEnd::GivenUp);
         };
         let rows = self.rows.as_mut_slice();
         if !replace_all(rows, &mut self.flat, variable, factors.as_slice()) {
-            return Err(Stop::GivenUp);
+            return Err(EarlyEnd::GivenUp);
         }
         self.trail.push(Change::Replaced(variable, factors))?;
         Ok(())
     }
 
     /// Removes a variable by the equality whose one half stands at this place.
-    pub(crate) fn use_equality(&mut self, alloc: Global, place: usize) -> Result<(), Stop> {
+    pub(crate) fn use_equality(&mut self, alloc: Global, place: usize) -> Result<(), EarlyEnd> {
         for _change in 0..CHANGES {
             let Some(row) = self.rows.get(place) else {
-                return Err(Stop::GivenUp);
+                return Err(EarlyEnd::GivenUp);
             };
             match self.unit_variable(self.flat.row(row.start)) {
                 Some(variable) => return self.substitute(place, variable),
                 None => self.change_variables(alloc, place)?,
             }
         }
-        Err(Stop::GivenUp)
+        Err(EarlyEnd::GivenUp)
     }
 }

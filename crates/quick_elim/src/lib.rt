@@ -17,12 +17,12 @@
 
 mod answer;
 mod certificate;
+mod early_end;
 mod equality;
 mod flat;
 mod point;
 mod row;
 mod settling;
-mod stop;
 mod sum;
 mod values;
 mod work;

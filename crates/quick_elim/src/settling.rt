@@ -8,8 +8,8 @@ ghost use Rattle.quick_elim.specs.declared.answer.Settled.TheVariants.{Refuted, 
 
 use crate::answer::{Budget, NoMemory, Settled};
 use crate::certificate::certificate_of;
+use crate::early_end::EarlyEnd;
 use crate::point::Point;
-use crate::stop::Stop;
 use crate::values::find_values;
 use crate::work::Work;
 use farkas_cert::{CertRefusal, Certificate, System, check_cert};
@@ -24,7 +24,7 @@ enum Guess {
 }
 
 // Removes all variables of a system.
-fn remove_all(alloc: Global, system: &System, work: &mut Work) -> Result<(), Stop> {
+fn remove_all(alloc: Global, system: &System, work: &mut Work) -> Result<(), EarlyEnd> {
     work.put_all(system.rows())?;
     work.remove_all(alloc)
 }
@@ -46,17 +46,17 @@ fn guess_point(alloc: Global, work: &Work) -> Result<Guess, AllocError> {
 fn look(alloc: Global, system: &System, budget: &Budget, order: u32) -> Result<Guess, AllocError> {
     let mut work = match Work::new(alloc, system, budget, order) {
         Ok(work) => work,
-        Err(Stop::NoMemory) => return Err(AllocError),
+        Err(EarlyEnd::NoMemory) => return Err(AllocError),
         Err(_) => return Ok(Guess::Nothing),
     };
     match remove_all(alloc, system, &mut work) {
         Ok(()) => guess_point(alloc, &work),
-        Err(Stop::Contradiction(number)) => {
+        Err(EarlyEnd::Contradiction(number)) => {
             let certificate = certificate_of(alloc, work.given, work.made.as_slice(), number)?;
             Ok(Guess::Certificate(certificate))
         }
-        Err(Stop::GivenUp) => Ok(Guess::Nothing),
-        Err(Stop::NoMemory) => Err(AllocError),
+        Err(EarlyEnd::GivenUp) => Ok(Guess::Nothing),
+        Err(EarlyEnd::NoMemory) => Err(AllocError),
     }
 }
 

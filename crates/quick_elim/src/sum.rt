@@ -1,5 +1,7 @@
 // Sums of multiples of rows, in their lowest terms.
 
+use cert_arithmetic::divisors::small_common_divisor;
+
 /// How a row is made: the sum of multiples of rows, by their numbers, and what it is divided by.
 #[derive(Clone, Copy)]
 pub(crate) struct Sum {
@@ -24,24 +26,12 @@ pub(crate) fn weighted_sum(m: i64, a: i64, n: i64, b: i64) -> Option<i64> {
     m.checked_mul(a)?.checked_add(n.checked_mul(b)?)
 }
 
-// The greatest common divisor, by Euclid's algorithm.
-fn greatest_common_divisor(a: u64, b: u64) -> u64 {
-    let mut x = a;
-    let mut y = b;
-    while y != 0 {
-        let rest = x % y;
-        x = y;
-        y = rest;
-    }
-    x
-}
-
 /// The greatest common divisor of these numbers, 0 where all are 0.
 pub(crate) fn common_divisor(numbers: &[i64]) -> u64 {
     let mut divisor = 0;
     for number in numbers {
         if *number != 0 {
-            divisor = greatest_common_divisor(number.unsigned_abs(), divisor);
+            divisor = small_common_divisor(number.unsigned_abs(), divisor);
         }
         if divisor == 1 {
             return 1;
@@ -54,7 +44,7 @@ pub(crate) fn common_divisor(numbers: &[i64]) -> u64 {
 pub(crate) fn multipliers(upper: i64, lower: i64) -> Option<(i64, i64)> {
     let above = upper.unsigned_abs();
     let below = lower.unsigned_abs();
-    let divisor = greatest_common_divisor(above, below);
+    let divisor = small_common_divisor(above, below);
     let m = below.checked_div(divisor)?;
     let n = above.checked_div(divisor)?;
     match (i64::try_from(m), i64::try_from(n)) {
@@ -64,7 +54,7 @@ pub(crate) fn multipliers(upper: i64, lower: i64) -> Option<(i64, i64)> {
 }
 
 /// Divides each number, with the remainder dropped; false where a quotient has more than 64 bits.
-pub(crate) fn divide_all(numbers: &mut [i64], divisor: i64) -> bool {
+pub(crate) fn divide(numbers: &mut [i64], divisor: i64) -> bool {
     for number in numbers.iter_mut() {
         match number.checked_div(divisor) {
             Some(quotient) => *number = quotient,

@@ -1,10 +1,10 @@
 // The rows that stand, and how variables are removed from them.
 
 use crate::answer::Budget;
+use crate::early_end::EarlyEnd;
 use crate::flat::{Flat, number_at};
 use crate::row::{Bounds, WorkRow, are_opposite, hash_of};
-use crate::stop::Stop;
-use crate::sum::{Sum, combine, common_divisor, divide_all, multipliers, weighted_sum};
+use crate::sum::{Sum, combine, common_divisor, divide, multipliers, weighted_sum};
 use crate::values::Change;
 use farkas_cert::{Row, System};
 use std::alloc::{AllocError, Global};
@@ -118,11 +118,11 @@ impl Work {
         system: &System,
         budget: &Budget,
         order: u32,
-    ) -> Result<Self, Stop> {
+    ) -> Result<Self, EarlyEnd> {
         let vars = system.vars() as usize;
         let given = system.rows().len();
         if vars > budget.vars || given > budget.rows {
-            return Err(Stop::GivenUp);
+            return Err(EarlyEnd::GivenUp);
         }
         Ok(Work {
             budget: *budget,
@@ -157,21 +157,21 @@ impl Work {
     }
 
     // Puts a given row among the others.
-    fn put_given(&mut self, row: &Row, number: usize) -> Result<(), Stop> {
+    fn put_given(&mut self, row: &Row, number: usize) -> Result<(), EarlyEnd> {
         for (coef, given) in self.coefs.iter_mut().zip(row.coefs.as_slice()) {
             match i64::try_from(*given) {
                 Ok(given) => *coef = given,
-                Err(_) => return Err(Stop::GivenUp),
+                Err(_) => return Err(EarlyEnd::GivenUp),
             }
         }
         match i64::try_from(row.bound) {
             Ok(bound) => self.put(bound, Sum::copy(number)),
-            Err(_) => Err(Stop::GivenUp),
+            Err(_) => Err(EarlyEnd::GivenUp),
         }
     }
 
     /// Puts the given rows among the others.
-    pub(crate) fn put_all(&mut self, rows: &[Row]) -> Result<(), Stop> {
+    pub(crate) fn put_all(&mut self, rows: &[Row]) -> Result<(), EarlyEnd> {
         for (place, row) in rows.iter().enumerate() {
             self.put_given(row, place.saturating_add(1))?;
         }
@@ -179,19 +179,19 @@ impl Work {
     }
 
     // The number of the row that a sum makes: a given row that isn't changed keeps its own.
-    fn number_of(&mut self, sum: Sum) -> Result<usize, Stop> {
+    fn number_of(&mut self, sum: Sum) -> Result<usize, EarlyEnd> {
         if sum.second.is_none() && sum.divisor == 1 {
             return Ok(sum.first.0);
         }
         if self.made.len() >= self.budget.made {
-            return Err(Stop::GivenUp);
+            return Err(EarlyEnd::GivenUp);
         }
         self.made.push(sum)?;
         Ok(self.given.saturating_add(self.made.len()))
     }
 
     /// Puts the row that is made among the others, in its lowest terms.
-    pub(crate) fn put(&mut self, bound: i64, sum: Sum) -> Result<(), Stop> {
+    pub(crate) fn put(&mut self, bound: i64, sum: Sum) -> Result<(), EarlyEnd> {
         let divisor = common_divisor(self.coefs.as_slice());
         if divisor == 0 {
             return self.put_empty(bound, sum);
@@ -200,23 +200,23 @@ impl Work {
             return self.put_reduced(bound, sum);
         }
         let Ok(divisor) = i64::try_from(divisor) else {
-            return Err(Stop::GivenUp);
+            return Err(EarlyEnd::GivenUp);
         };
-        if !divide_all(self.coefs.as_mut_slice(), divisor) {
-            return Err(Stop::GivenUp);
+        if !divide(self.coefs.as_mut_slice(), divisor) {
+            return Err(EarlyEnd::GivenUp);
         }
         let Some(bound) = bound.checked_div_euclid(divisor) else {
-            return Err(Stop::GivenUp);
+            return Err(EarlyEnd::GivenUp);
         };
         self.put_reduced(bound, Sum { divisor, ..sum })
     }
 
     // A row without coefficients is left out where it holds, and else a contradiction.
-    fn put_empty(&mut self, bound: i64, sum: Sum) -> Result<(), Stop> {
+    fn put_empty(&mut self, bound: i64, sum: Sum) -> Result<(), EarlyEnd> {
         if bound >= 0 {
             return Ok(());
         }
-        Err(Stop::Contradiction(self.number_of(sum)?))
+        Err(EarlyEnd::Contradiction(self.number_of(sum)?))
     }
 
     // The rows related to the one that is made.
@@ -245,17 +245,17 @@ impl Work {
         bound: i64,
         number: usize,
         opposite: Option<(i64, usize)>,
-    ) -> Result<bool, Stop> {
+    ) -> Result<bool, EarlyEnd> {
         let Some((other_bound, other)) = opposite else {
             return Ok(false);
         };
         let Some(gap) = bound.checked_add(other_bound) else {
-            return Err(Stop::GivenUp);
+            return Err(EarlyEnd::GivenUp);
         };
         if gap >= 0 {
             return Ok(gap == 0);
         }
-        Err(Stop::Contradiction(self.number_of(Sum {
+        Err(EarlyEnd::Contradiction(self.number_of(Sum {
             divisor: 1,
             first: (number, 1),
             second: Some((other, 1)),
@@ -263,7 +263,7 @@ impl Work {
     }
 
     // Puts the row that is made among the others: the least bound of those with its coefficients is kept.
-    fn put_reduced(&mut self, bound: i64, sum: Sum) -> Result<(), Stop> {
+    fn put_reduced(&mut self, bound: i64, sum: Sum) -> Result<(), EarlyEnd> {
         let hash = hash_of(self.coefs.as_slice());
         let Relatives { same, opposite } = self.relatives(hash);
         if let Some(place) = same {
@@ -295,9 +295,15 @@ impl Work {
     }
 
     // One row more, with the coefficients that are made.
-    fn push(&mut self, bound: i64, number: usize, hash: u64, is_tight: bool) -> Result<(), Stop> {
+    fn push(
+        &mut self,
+        bound: i64,
+        number: usize,
+        hash: u64,
+        is_tight: bool,
+    ) -> Result<(), EarlyEnd> {
         if self.rows.len() >= self.budget.rows {
-            return Err(Stop::GivenUp);
+            return Err(EarlyEnd::GivenUp);
         }
         let start = self.flat.push(self.coefs.as_slice())?;
         self.rows.push(WorkRow {
@@ -336,22 +342,22 @@ impl Work {
         variable: usize,
         upper: WorkRow,
         lower: WorkRow,
-    ) -> Result<(), Stop> {
+    ) -> Result<(), EarlyEnd> {
         if self.sums >= self.budget.sums {
-            return Err(Stop::GivenUp);
+            return Err(EarlyEnd::GivenUp);
         }
         self.sums += 1;
         let above = self.flat.row(upper.start);
         let below = self.flat.row(lower.start);
         let multipliers = multipliers(number_at(above, variable), number_at(below, variable));
         let Some((m, n)) = multipliers else {
-            return Err(Stop::GivenUp);
+            return Err(EarlyEnd::GivenUp);
         };
         if !combine(m, above, n, below, self.coefs.as_mut_slice()) {
-            return Err(Stop::GivenUp);
+            return Err(EarlyEnd::GivenUp);
         }
         let Some(bound) = weighted_sum(m, upper.bound, n, lower.bound) else {
-            return Err(Stop::GivenUp);
+            return Err(EarlyEnd::GivenUp);
         };
         self.put(
             bound,
@@ -364,15 +370,15 @@ impl Work {
     }
 
     /// The row that is gone at a place.
-    pub(crate) fn gone_at(&self, place: usize) -> Result<WorkRow, Stop> {
+    pub(crate) fn gone_at(&self, place: usize) -> Result<WorkRow, EarlyEnd> {
         match self.gone.get(place) {
             Some(row) => Ok(*row),
-            None => Err(Stop::GivenUp),
+            None => Err(EarlyEnd::GivenUp),
         }
     }
 
     // Puts the combinations of each row that bounds a variable from above with each from below among the others.
-    fn join_all(&mut self, variable: usize, bounds: Bounds) -> Result<(), Stop> {
+    fn join_all(&mut self, variable: usize, bounds: Bounds) -> Result<(), EarlyEnd> {
         for above in bounds.first..bounds.middle {
             let upper = self.gone_at(above)?;
             for below in bounds.middle..bounds.end {
@@ -406,7 +412,7 @@ impl Work {
     }
 
     // Removes a variable: each row that bounds it from above is combined with each that bounds it from below.
-    fn eliminate(&mut self, variable: usize) -> Result<(), Stop> {
+    fn eliminate(&mut self, variable: usize) -> Result<(), EarlyEnd> {
         let bounds = self.take_with(variable)?;
         self.join_all(variable, bounds)?;
         self.trail.push(Change::Removed(variable, bounds))?;
@@ -414,7 +420,7 @@ impl Work {
     }
 
     /// Removes the variables one by one, until no row is left.
-    pub(crate) fn remove_all(&mut self, alloc: Global) -> Result<(), Stop> {
+    pub(crate) fn remove_all(&mut self, alloc: Global) -> Result<(), EarlyEnd> {
         for _removal in 0..self.vars.saturating_add(1) {
             if let Some(place) = self.equality() {
                 self.use_equality(alloc, place)?;
@@ -425,6 +431,6 @@ impl Work {
                 None => return Ok(()),
             }
         }
-        Err(Stop::GivenUp)
+        Err(EarlyEnd::GivenUp)
     }
 }

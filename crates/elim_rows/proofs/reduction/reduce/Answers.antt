@@ -19,7 +19,7 @@ returns c =
     let g = c.common_divisor-divisor.result in
     let same : g ≡ max g 1 = omega arith in
     let positive : to_z w128 g ≡ pos g = to_z_pos w128 g (omega arith) in
-    let coefs : c.divide_all.new.numbers.items ≡ map (λ a. int_div a (pos (max g 1))) c.args.coefs.now.items = rw (← same, ← positive) c.divide_all.ensures in
+    let coefs : c.divide_each.new.numbers.items ≡ map (λ a. int_div a (pos (max g 1))) c.args.coefs.now.items = rw (← same, ← positive) c.divide_each.ensures in
     let fits_quotient : FitsSigned w128 c.floor_quotient.result = search rules in
     let bound : to_z w128 (of_z w128 c.floor_quotient.result) ≡ int_div_euclid c.args.bound (pos (max g 1)) =
     to_z-of_z w128 c.floor_quotient.result fits_quotient ∙ c.floor_quotient.ensures ∙ ap (λ z. int_div_euclid z (to_z w128 g)) (to_z-of_z w128 c.args.bound c.ranges.bound) ∙ ap (int_div_euclid c.args.bound) (positive ∙ ap pos same) in

@@ -1,6 +1,6 @@
 use Rattle.std.proofs.Common.{arith}
 use Rattle.std.proofs.lemmas.Nat.Gcd.{IsGcd-from_zero, IsGcd-from_mod}
-use Rattle.elim_rows.proofs.reduction.small_common_divisor.Goals as goal
+use Rattle.cert_arithmetic.proofs.divisors.small_common_divisor.Goals as goal
 
 pub loop-y-preserved : goal.loop-y-preserved
 loop-y-preserved c = record {

@@ -1,6 +1,6 @@
 use Rattle.std.proofs.Common.{ℕ, ◌≤◌, max}
 use Rattle.std.specs.Int.{IsGcd}
-use Rattle.elim_rows.proofs.reduction.small_common_divisor.Given as goal
+use Rattle.cert_arithmetic.proofs.divisors.small_common_divisor.Given as goal
 
 abbrev pub invariant-loop-y : goal.invariant-loop-y
 invariant-loop-y l = record {

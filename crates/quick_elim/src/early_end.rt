@@ -1,10 +1,10 @@
-// Why the search stops.
+// Why the removal of variables stops.
 
 use std::alloc::{AllocError, AllocFailed};
 
 /// Why the removal of variables stops before its end.
 #[derive(Clone, Copy)]
-pub(crate) enum Stop {
+pub(crate) enum EarlyEnd {
     /// The row of this number is a contradiction.
     Contradiction(usize),
     /// The budget or 64 bits don't do.
@@ -13,14 +13,14 @@ pub(crate) enum Stop {
     NoMemory,
 }
 
-impl From<AllocError> for Stop {
-    fn from(_error: AllocError) -> Stop {
-        Stop::NoMemory
+impl From<AllocError> for EarlyEnd {
+    fn from(_error: AllocError) -> EarlyEnd {
+        EarlyEnd::NoMemory
     }
 }
 
-impl<T: Drop> From<AllocFailed<T>> for Stop {
-    fn from(_failed: AllocFailed<T>) -> Stop {
-        Stop::NoMemory
+impl<T: Drop> From<AllocFailed<T>> for EarlyEnd {
+    fn from(_failed: AllocFailed<T>) -> EarlyEnd {
+        EarlyEnd::NoMemory
     }
 }
