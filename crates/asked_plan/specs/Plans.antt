@@ -14,10 +14,10 @@ use Rattle.plan_checker.specs.declared.refusal.PlanRefusal.TheVariants.{Shape}
 use Rattle.plan_maker.specs.Made.{IsBarrierPlan, IsMade}
 use Rattle.plan_maker.specs.declared.reasons.Reasons.{Reasons}
 use Rattle.plan_input.specs.Sources.{HasProgramWith, behind_end}
-use Rattle.plan_input.specs.Stops as sources
-use Rattle.plan_input.specs.Stops.{IsPlanStop, IsPlanStopBy, IsTextOf}
-use Rattle.plan_input.specs.declared.stop.Stop.{Stop}
-use Rattle.plan_input.specs.declared.stop.Stop.TheVariants.{NoMemory}
+use Rattle.plan_input.specs.Errors as sources
+use Rattle.plan_input.specs.Errors.{IsPlanError, IsPlanErrorBy, IsTextOf}
+use Rattle.plan_input.specs.declared.error.InputError.{InputError}
+use Rattle.plan_input.specs.declared.error.InputError.TheVariants.{NoMemory}
 
 -- only comments may stand behind END, where no plan does
 abbrev pub stands_alone : PlanChoice → Bool
@@ -55,19 +55,19 @@ first_reason None tree plan = first_failure tree plan
 first_reason (Some workers) tree plan = if plan.workers == workers then first_failure tree plan else Some (Shape 1)
 
 -- Bytes are refused as a plan that is to be accepted for a program, with the workers that are asked for: their first line that no plan's text has, or else the first reason against the plan whose text they are. Memory may run out in place of each.
-abbrev pub IsRefused : Option ℕ → Tree → List ℕ → Stop → Type 0
-IsRefused asked tree = IsPlanStopBy (first_reason asked tree)
+abbrev pub IsRefused : Option ℕ → Tree → List ℕ → InputError → Type 0
+IsRefused asked tree = IsPlanErrorBy (first_reason asked tree)
 
 -- There is no plan: where one is made since memory ran out, else since the one that is given is refused.
-abbrev pub IsPlanStopFor : PlanChoice → ℕ → Tree → List ℕ → Stop → Type 0
-IsPlanStopFor Made workers tree bytes stop = stop ≡ NoMemory
-IsPlanStopFor Barrier workers tree bytes stop = stop ≡ NoMemory
-IsPlanStopFor Given workers tree bytes stop = IsRefused (Some workers) tree bytes stop
+abbrev pub IsPlanErrorFor : PlanChoice → ℕ → Tree → List ℕ → InputError → Type 0
+IsPlanErrorFor Made workers tree bytes error = error ≡ NoMemory
+IsPlanErrorFor Barrier workers tree bytes error = error ≡ NoMemory
+IsPlanErrorFor Given workers tree bytes error = IsRefused (Some workers) tree bytes error
 
 -- There is no plan that is asked for: for the source, or else for the plan.
-pub data IsStop (workers : ℕ) (choice : PlanChoice) (bytes : List ℕ) (settings : List (Name × ℤ)) (stop : Stop) : Type 0 where
-  source : (is : sources.IsStop (stands_alone choice) bytes settings stop) → IsStop workers choice bytes settings stop
-  plan : (tree : Tree) (clear : sources.IsClear (stands_alone choice) bytes) (has : HasProgramWith settings bytes tree) (inside : IsInRange tree) (is : IsPlanStopFor choice workers tree (behind_end bytes) stop) → IsStop workers choice bytes settings stop
+pub data IsError (workers : ℕ) (choice : PlanChoice) (bytes : List ℕ) (settings : List (Name × ℤ)) (error : InputError) : Type 0 where
+  source : (is : sources.IsError (stands_alone choice) bytes settings error) → IsError workers choice bytes settings error
+  plan : (tree : Tree) (clear : sources.IsClear (stands_alone choice) bytes) (has : HasProgramWith settings bytes tree) (inside : IsInRange tree) (is : IsPlanErrorFor choice workers tree (behind_end bytes) error) → IsError workers choice bytes settings error
 
 -- The bytes begin with a source whose program is this one, all of whose subscripts are in range, and what stands behind END is the text of this plan, which fits the program.
 pub record IsBehind (bytes : List ℕ) (settings : List (Name × ℤ)) (tree : Tree) (plan : Plan) : Type 0 where
@@ -77,6 +77,6 @@ pub record IsBehind (bytes : List ℕ) (settings : List (Name × ℤ)) (tree : T
   pub fits : IsFit tree plan
 
 -- There is no such plan: for the source, or else for what stands behind it.
-pub data IsStopBehind (bytes : List ℕ) (settings : List (Name × ℤ)) (stop : Stop) : Type 0 where
-  source : (is : sources.IsStop false bytes settings stop) → IsStopBehind bytes settings stop
-  plan : (tree : Tree) (has : HasProgramWith settings bytes tree) (inside : IsInRange tree) (is : IsPlanStop tree (behind_end bytes) stop) → IsStopBehind bytes settings stop
+pub data IsErrorBehind (bytes : List ℕ) (settings : List (Name × ℤ)) (error : InputError) : Type 0 where
+  source : (is : sources.IsError false bytes settings error) → IsErrorBehind bytes settings error
+  plan : (tree : Tree) (has : HasProgramWith settings bytes tree) (inside : IsInRange tree) (is : IsPlanError tree (behind_end bytes) error) → IsErrorBehind bytes settings error

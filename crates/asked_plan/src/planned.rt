@@ -7,14 +7,14 @@ ghost use Rattle.plan_checker.specs.Accepted.{IsAccepted};
 ghost use Rattle.plan_checker.specs.declared.refusal.PlanRefusal.TheVariants as reasons;
 ghost use Rattle.plan_text.specs.PlanText.{HasCounts};
 ghost use Rattle.sync_plan.specs.Fit.{IsFit};
-ghost use Rattle.asked_plan.specs.Plans.{HasWorkers, IsBehind, IsPlanFor, IsPlanned, IsPlanStopFor, IsRefused, IsStop, IsStopBehind, IsTaken, first_reason, stands_alone};
+ghost use Rattle.asked_plan.specs.Plans.{HasWorkers, IsBehind, IsPlanFor, IsPlanned, IsPlanErrorFor, IsRefused, IsError, IsErrorBehind, IsTaken, first_reason, stands_alone};
 
 use command_words::PlanChoice;
 use f77_lines::MOST_BYTES;
 use f77_source::Setting;
 use nest_tree::Program;
 use plan_checker::{PlanRefusal, check};
-use plan_input::{Stop, read_fitting, read_inside};
+use plan_input::{InputError, read_fitting, read_inside};
 use plan_maker::{make, make_barrier};
 use plan_text::read_plan;
 use std::alloc::Global;
@@ -46,7 +46,7 @@ pub fn plan_program<R: Threads + Sync>(
     alloc: Global,
     asked: &Asked,
     bytes: &[u8],
-) -> Result<Planned, Stop>
+) -> Result<Planned, InputError>
     requires short { length bytes.now ≤ MOST_BYTES }
     requires some { 1 ≤ asked.now.workers }
     requires few { asked.now.workers ≤ 64 }
@@ -56,7 +56,7 @@ pub fn plan_program<R: Threads + Sync>(
     ensures fits { IfOk result (λ p. IsFit (tree_of p.program) p.plan) }
     ensures workers { IfOk result (λ p. p.plan.workers ≡ asked.now.workers) }
     ensures counts { IfOk result (λ p. HasCounts p.plan) }
-    ensures refused { IfErr result (IsStop asked.now.workers asked.now.choice bytes.now
+    ensures refused { IfErr result (IsError asked.now.workers asked.now.choice bytes.now
         (map setting_of asked.now.settings.now)) }
 {
     let alone = stands_alone(asked.choice);
@@ -68,11 +68,11 @@ pub fn plan_program<R: Threads + Sync>(
 /// The program of the source that the bytes begin with, and the plan whose text stands behind its END
 /// line, where it fits, accepted or not. The error is the first reason why there is none, or that
 /// memory ran out.
-pub fn plan_behind(alloc: Global, settings: &[Setting], bytes: &[u8]) -> Result<Planned, Stop>
+pub fn plan_behind(alloc: Global, settings: &[Setting], bytes: &[u8]) -> Result<Planned, InputError>
     requires { length bytes.now ≤ MOST_BYTES }
     ensures behind { IfOk result (λ p. IsBehind bytes.now (map setting_of settings.now)
         (tree_of p.program) p.plan) }
-    ensures refused { IfErr result (IsStopBehind bytes.now (map setting_of settings.now)) }
+    ensures refused { IfErr result (IsErrorBehind bytes.now (map setting_of settings.now)) }
 {
     let (program, rest) = read_inside(alloc, bytes, settings, false)?;
     let plan = read_fitting(alloc, &program, &bytes[rest..])?;
@@ -98,7 +98,7 @@ pub fn plan_for<R: Threads + Sync>(
     program: &Program,
     asked: &Asked,
     bytes: &[u8],
-) -> Result<Plan, Stop>
+) -> Result<Plan, InputError>
     requires short { length bytes.now ≤ MOST_BYTES }
     requires some { 1 ≤ asked.now.workers }
     requires few { asked.now.workers ≤ 64 }
@@ -107,7 +107,7 @@ pub fn plan_for<R: Threads + Sync>(
     ensures accepted { IfOk result (IsAccepted (tree_of program.now)) }
     ensures workers { IfOk result (λ plan. plan.workers ≡ asked.now.workers) }
     ensures counts { IfOk result HasCounts }
-    ensures refused { IfErr result (IsPlanStopFor asked.now.choice asked.now.workers
+    ensures refused { IfErr result (IsPlanErrorFor asked.now.choice asked.now.workers
         (tree_of program.now) bytes.now) }
 {
     match asked.choice {
@@ -129,7 +129,7 @@ pub fn given_plan<R: Threads + Sync>(
     program: &Program,
     bytes: &[u8],
     asked: Option<u32>,
-) -> Result<Plan, Stop>
+) -> Result<Plan, InputError>
     requires short { length bytes.now ≤ MOST_BYTES }
     ensures taken { IfOk result (IsTaken asked (tree_of program.now) bytes.now) }
     ensures refused { IfErr result (IsRefused asked (tree_of program.now) bytes.now) }

@@ -5,7 +5,7 @@ ghost use Rattle.farkas_cert.specs.declared.certificate.CertRefusal.TheVariants 
 ghost use Rattle.farkas_cert.specs.declared.certificate.CertRefusal.{CertRefusal};
 ghost use Rattle.bench_parts.specs.declared.ending.Ending.TheVariants as endings;
 ghost use Rattle.bench_parts.specs.declared.line.LineFault.TheVariants as faults;
-ghost use Rattle.bench_parts.specs.declared.decisions.Failure.TheVariants as stops;
+ghost use Rattle.bench_parts.specs.declared.decisions.Failure.TheVariants as failures;
 
 use crate::ending::Ending;
 use crate::line::{LineFault, read_line};
@@ -27,7 +27,7 @@ enum Failure {
 }
 
 impl From<io::Error> for Failure {
-    ghost from_gives = { λ _ stop. (stop ≡ stops.NoMemory) ⊎ (stop ≡ stops.Fault) };
+    ghost from_gives = { λ _ made. (made ≡ failures.NoMemory) ⊎ (made ≡ failures.Fault) };
 
     fn from(error: io::Error) -> Failure {
         if error.kind() == ErrorKind::OutOfMemory {
@@ -39,7 +39,7 @@ impl From<io::Error> for Failure {
 }
 
 impl From<AllocError> for Failure {
-    ghost from_gives = { λ _ stop. stop ≡ stops.NoMemory };
+    ghost from_gives = { λ _ made. made ≡ failures.NoMemory };
 
     fn from(_error: AllocError) -> Failure {
         Failure::NoMemory
@@ -47,7 +47,7 @@ impl From<AllocError> for Failure {
 }
 
 impl From<NoMemory> for Failure {
-    ghost from_gives = { λ _ stop. stop ≡ stops.NoMemory };
+    ghost from_gives = { λ _ made. made ≡ failures.NoMemory };
 
     fn from(_error: NoMemory) -> Failure {
         Failure::NoMemory
@@ -55,8 +55,8 @@ impl From<NoMemory> for Failure {
 }
 
 impl From<LineFault> for Failure {
-    ghost from_gives = { λ fault stop. (fault ≡ faults.NoMemory → stop ≡ stops.NoMemory)
-        × (fault ≢ faults.NoMemory → stop ≡ stops.Line fault) };
+    ghost from_gives = { λ fault made. (fault ≡ faults.NoMemory → made ≡ failures.NoMemory)
+        × (fault ≢ faults.NoMemory → made ≡ failures.Line fault) };
 
     fn from(fault: LineFault) -> Failure {
         match fault {
@@ -67,8 +67,8 @@ impl From<LineFault> for Failure {
 }
 
 impl From<CertRefusal> for Failure {
-    ghost from_gives = { λ refusal stop. (refusal ≡ refusals.NoMemory → stop ≡ stops.NoMemory)
-        × (refusal ≢ refusals.NoMemory → stop ≡ stops.Certificate refusal) };
+    ghost from_gives = { λ refusal made. (refusal ≡ refusals.NoMemory → made ≡ failures.NoMemory)
+        × (refusal ≢ refusals.NoMemory → made ≡ failures.Certificate refusal) };
 
     fn from(refusal: CertRefusal) -> Failure {
         match refusal {
@@ -108,7 +108,7 @@ fn told(written: io::Result<()>, ending: Ending) -> Ending
 
 // Counts the lines in `number`, which is that of the line at fault, if there is one.
 fn decide_all(rt: &HostRuntime, times: bool, number: &mut u64) -> Result<(), Failure>
-    ensures { IfErr result (λ stop. (refusal : CertRefusal) → stop ≢ stops.Certificate refusal) }
+    ensures { IfErr result (λ made. (refusal : CertRefusal) → made ≢ failures.Certificate refusal) }
 {
     let alloc = rt.alloc();
     let mut input = BufReader::new(alloc, rt.reader())?;
@@ -137,7 +137,7 @@ fn decide_all(rt: &HostRuntime, times: bool, number: &mut u64) -> Result<(), Fai
 
 // Decides a system and writes its line.
 fn finish(rt: &HostRuntime, times: bool, task: &Task) -> Result<(), Failure>
-    ensures { IfErr result (λ stop. (refusal : CertRefusal) → stop ≢ stops.Certificate refusal) }
+    ensures { IfErr result (λ made. (refusal : CertRefusal) → made ≢ failures.Certificate refusal) }
 {
     let alloc = rt.alloc();
     let system = task.system.as_system();

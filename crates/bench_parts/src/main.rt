@@ -64,7 +64,7 @@ use crate::decisions::decisions;
 use crate::ending::Ending;
 use crate::measure::Measure;
 use f77_lines::MOST_BYTES;
-use plan_input::Stop;
+use plan_input::InputError;
 use spmd_model::Style;
 use std::io::{ErrorKind, Read, Write};
 use std::process::ExitCode;
@@ -156,7 +156,7 @@ fn over_input<R: Threads + Sync>(
     rt.stdin().read_to_end(&mut bytes)?;
     match measure_of(rt, threads, part, &bytes) {
         Ok(measure) => tell(rt, &measure, times),
-        Err(stop) => tell_stop(rt, stop),
+        Err(error) => tell_error(rt, error),
     }
 }
 
@@ -166,9 +166,9 @@ fn measure_of<R: Threads + Sync>(
     threads: &R,
     part: Part,
     bytes: &[u8],
-) -> Result<Measure, Stop> {
+) -> Result<Measure, InputError> {
     if bytes.len() > MOST_BYTES {
-        return Err(Stop::TooLong);
+        return Err(InputError::TooLong);
     }
     match part {
         Part::Systems | Part::Source => parts::source(rt, bytes),
@@ -191,13 +191,13 @@ fn tell(rt: &HostRuntime, measure: &Measure, times: bool) -> io::Result<Ending> 
     Ok(Ending::Done)
 }
 
-fn tell_stop(rt: &HostRuntime, stop: Stop) -> io::Result<Ending> {
-    if stop.is_told() {
-        rt.println(stop)?;
+fn tell_error(rt: &HostRuntime, error: InputError) -> io::Result<Ending> {
+    if error.is_told() {
+        rt.println(error)?;
         return Ok(Ending::Refused);
     }
-    match stop {
-        Stop::NoMemory => Ok(Ending::NoMemory),
+    match error {
+        InputError::NoMemory => Ok(Ending::NoMemory),
         _ => Ok(Ending::Fault),
     }
 }

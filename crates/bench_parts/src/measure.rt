@@ -1,6 +1,6 @@
 // What a part took, by the clock, and what it writes.
 
-use plan_input::Stop;
+use plan_input::InputError;
 use std::io;
 use std::time::Instant;
 
@@ -12,7 +12,7 @@ pub(crate) struct Measure {
 }
 
 /// Now, by the clock, whose fault counts as one of a read.
-pub(crate) fn now(rt: &HostRuntime) -> Result<Instant, Stop> {
+pub(crate) fn now(rt: &HostRuntime) -> Result<Instant, InputError> {
     match Instant::now(rt) {
         Ok(now) => Ok(now),
         Err(error) => Err(fault_of(error)),
@@ -20,7 +20,7 @@ pub(crate) fn now(rt: &HostRuntime) -> Result<Instant, Stop> {
 }
 
 /// How many microseconds ago that was.
-pub(crate) fn micros_since(rt: &HostRuntime, begun: &Instant) -> Result<u128, Stop> {
+pub(crate) fn micros_since(rt: &HostRuntime, begun: &Instant) -> Result<u128, InputError> {
     match begun.elapsed(rt) {
         Ok(took) => Ok(took.as_micros()),
         Err(error) => Err(fault_of(error)),
@@ -33,7 +33,7 @@ pub(crate) fn measured(
     part: &str,
     begun: &Instant,
     text: &[u8],
-) -> Result<Measure, Stop> {
+) -> Result<Measure, InputError> {
     let took = micros_since(rt, begun)?;
     let alloc = rt.alloc();
     Ok(Measure {
@@ -42,6 +42,6 @@ pub(crate) fn measured(
     })
 }
 
-fn fault_of(error: io::Error) -> Stop {
-    Stop::from_fault(error, Stop::ReadFault)
+fn fault_of(error: io::Error) -> InputError {
+    InputError::from_fault(error, InputError::ReadFault)
 }

@@ -9,7 +9,7 @@ use crate::own;
 use f77_lines::{MOST_BYTES, statements};
 use f77_source::read_program;
 use nest_tree::{Draft, Program};
-use plan_input::{Stop, read_fitting, read_source};
+use plan_input::{InputError, read_fitting, read_source};
 use plan_text::{read_plan, write_plan};
 use range_check::check_ranges;
 use seq_meaning::run_sequential;
@@ -19,7 +19,7 @@ use std::alloc::{AllocError, Global};
 
 /// The program of the source that the bytes begin with, all of whose subscripts are in range, and
 /// where the rest begins.
-pub(crate) fn read_inside(alloc: Global, bytes: &[u8]) -> Result<(Program, usize), Stop>
+pub(crate) fn read_inside(alloc: Global, bytes: &[u8]) -> Result<(Program, usize), InputError>
     requires { length bytes.now ≤ MOST_BYTES }
     ensures ranges { IfOk result (λ read. IsInRange (tree_of read.0)) }
     ensures within { IfOk result (λ read. read.1 ≤ length bytes.now) }
@@ -27,13 +27,13 @@ pub(crate) fn read_inside(alloc: Global, bytes: &[u8]) -> Result<(Program, usize
     let (program, rest) = read_source(alloc, bytes)?;
     match check_ranges(alloc, &program) {
         Ok(()) => Ok((program, rest)),
-        Err(outside) => Err(Stop::Range(outside)),
+        Err(outside) => Err(InputError::Range(outside)),
     }
 }
 
 /// The lines of a source and its program: how many outermost statements, named constants and
 /// variables this has.
-pub(crate) fn source(rt: &HostRuntime, bytes: &[u8]) -> Result<Measure, Stop>
+pub(crate) fn source(rt: &HostRuntime, bytes: &[u8]) -> Result<Measure, InputError>
     requires { length bytes.now ≤ MOST_BYTES }
 {
     let alloc = rt.alloc();
@@ -58,7 +58,7 @@ fn counts(alloc: Global, draft: &Draft) -> Result<Vec<u8>, AllocError> {
 }
 
 /// The reading and the writing of a plan's text, which is written again.
-pub(crate) fn plan(rt: &HostRuntime, bytes: &[u8]) -> Result<Measure, Stop>
+pub(crate) fn plan(rt: &HostRuntime, bytes: &[u8]) -> Result<Measure, InputError>
     requires { length bytes.now ≤ MOST_BYTES }
 {
     let alloc = rt.alloc();
@@ -67,7 +67,7 @@ pub(crate) fn plan(rt: &HostRuntime, bytes: &[u8]) -> Result<Measure, Stop>
     let read = micros_since(rt, &begun)?;
     let plan = match answer {
         Ok(plan) => plan,
-        Err(refusal) => return Err(Stop::from(refusal)),
+        Err(refusal) => return Err(InputError::from(refusal)),
     };
     let begun = now(rt)?;
     let text = write_plan(alloc, &plan)?;
@@ -77,19 +77,19 @@ pub(crate) fn plan(rt: &HostRuntime, bytes: &[u8]) -> Result<Measure, Stop>
 }
 
 /// The check of a source's subscripts, which writes nothing.
-pub(crate) fn ranges(rt: &HostRuntime, bytes: &[u8]) -> Result<Measure, Stop>
+pub(crate) fn ranges(rt: &HostRuntime, bytes: &[u8]) -> Result<Measure, InputError>
     requires { length bytes.now ≤ MOST_BYTES }
 {
     let (program, _) = read_source(rt.alloc(), bytes)?;
     let begun = now(rt)?;
     match check_ranges(rt.alloc(), &program) {
         Ok(()) => measured(rt, "ranges", &begun, &[]),
-        Err(outside) => Err(Stop::Range(outside)),
+        Err(outside) => Err(InputError::Range(outside)),
     }
 }
 
 /// The sequential run of a source, which writes its output.
-pub(crate) fn run(rt: &HostRuntime, bytes: &[u8]) -> Result<Measure, Stop>
+pub(crate) fn run(rt: &HostRuntime, bytes: &[u8]) -> Result<Measure, InputError>
     requires { length bytes.now ≤ MOST_BYTES }
 {
     let (program, _) = read_inside(rt.alloc(), bytes)?;
@@ -99,14 +99,14 @@ pub(crate) fn run(rt: &HostRuntime, bytes: &[u8]) -> Result<Measure, Stop>
 }
 
 /// The round robin of a source by the plan behind it, which has to fit alone; it writes the output.
-pub(crate) fn machine(rt: &HostRuntime, bytes: &[u8]) -> Result<Measure, Stop>
+pub(crate) fn machine(rt: &HostRuntime, bytes: &[u8]) -> Result<Measure, InputError>
     requires { length bytes.now ≤ MOST_BYTES }
 {
     let (program, rest) = read_inside(rt.alloc(), bytes)?;
     round_robin(rt, &program, &bytes[rest..])
 }
 
-fn round_robin(rt: &HostRuntime, program: &Program, text: &[u8]) -> Result<Measure, Stop>
+fn round_robin(rt: &HostRuntime, program: &Program, text: &[u8]) -> Result<Measure, InputError>
     requires ranges { IsInRange (tree_of program.now) }
     requires short { length text.now ≤ MOST_BYTES }
 {
@@ -119,7 +119,7 @@ fn round_robin(rt: &HostRuntime, program: &Program, text: &[u8]) -> Result<Measu
 
 /// The instances of all phases of a source by the cut of the plan behind it, each given to the one
 /// processor that owns it: how many there are.
-pub(crate) fn own(rt: &HostRuntime, bytes: &[u8]) -> Result<Measure, Stop>
+pub(crate) fn own(rt: &HostRuntime, bytes: &[u8]) -> Result<Measure, InputError>
     requires { length bytes.now ≤ MOST_BYTES }
 {
     let alloc = rt.alloc();

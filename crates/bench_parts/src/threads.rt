@@ -13,7 +13,7 @@ use fork_join::run_join;
 use nest_tree::Program;
 use plan_checker::check;
 use plan_checker::laws::accepted_plans_are_ordered;
-use plan_input::{Stop, read_fitting};
+use plan_input::{InputError, read_fitting};
 use spmd_model::Style;
 use spmd_ports::NoGate;
 use spmd_workers::run_spmd_with;
@@ -26,7 +26,7 @@ fn case_of<R: Threads + Sync>(
     threads: &R,
     alloc: Global,
     bytes: &[u8],
-) -> Result<(Program, Plan), Stop>
+) -> Result<(Program, Plan), InputError>
     requires { length bytes.now ≤ MOST_BYTES }
     ensures ranges { IfOk result (λ r. IsInRange (tree_of r.0)) }
     ensures fits { IfOk result (λ r. IsFit (tree_of r.0) r.1) }
@@ -43,7 +43,7 @@ fn read_accepted<R: Threads + Sync>(
     alloc: Global,
     program: &Program,
     bytes: &[u8],
-) -> Result<Plan, Stop>
+) -> Result<Plan, InputError>
     requires short { length bytes.now ≤ MOST_BYTES }
     requires ranges { IsInRange (tree_of program.now) }
     ensures fits { IfOk result (IsFit (tree_of program.now)) }
@@ -51,7 +51,7 @@ fn read_accepted<R: Threads + Sync>(
 {
     let plan = read_fitting(alloc, program, bytes)?;
     if let Err(refusal) = check(threads, alloc, program, &plan) {
-        return Err(Stop::from(refusal));
+        return Err(InputError::from(refusal));
     }
     accepted_plans_are_ordered();
     Ok(plan)
@@ -62,7 +62,7 @@ pub(crate) fn join<R: Threads + Sync>(
     rt: &HostRuntime,
     threads: &R,
     bytes: &[u8],
-) -> Result<Measure, Stop>
+) -> Result<Measure, InputError>
     requires { length bytes.now ≤ MOST_BYTES }
 {
     let (program, plan) = case_of(threads, rt.alloc(), bytes)?;
@@ -77,7 +77,7 @@ pub(crate) fn spmd<R: Threads + Sync>(
     threads: &R,
     bytes: &[u8],
     style: Style,
-) -> Result<Measure, Stop>
+) -> Result<Measure, InputError>
     requires { length bytes.now ≤ MOST_BYTES }
 {
     let (program, plan) = case_of(threads, rt.alloc(), bytes)?;

@@ -9,9 +9,9 @@ use Rattle.spmd_answer.specs.Bench.{bench_source}
 use Rattle.std.specs.Option.{option_map, option_or}
 use Rattle.nest_tree.specs.Limits.{first_limit}
 use Rattle.nest_tree.specs.Tree.{Tree}
-use Rattle.plan_input.specs.declared.stop.Stop.{Stop}
-use Rattle.plan_input.specs.declared.stop.Stop.TheVariants.{Limit, Range}
-use Rattle.spmd_answer.specs.Due.{due_of_refusal, due_of_stop}
+use Rattle.plan_input.specs.declared.error.InputError.{InputError}
+use Rattle.plan_input.specs.declared.error.InputError.TheVariants.{Limit, Range}
+use Rattle.spmd_answer.specs.Due.{due_of_refusal, due_of_error}
 use Rattle.spmd_answer.specs.declared.source.Behind.TheVariants.{Comments}
 use Rattle.bench_program.proofs.Listed.{AreDigits, source, source-ends, source-entries, source-faultless}
 use Rattle.bench_program.proofs.Faultless.{program-is, statements-faultless, tree}
@@ -28,17 +28,17 @@ none_outside points sweeps some = by_case (outside_of (tree points sweeps (pos (
     by_case (Some o) e = absurd (some_in_range (tree points sweeps (pos (points + 1))) o e (all_inside points sweeps some))
 
 -- the first limit that a program passes, or else its first subscript out of range
-abbrev stop_of_tree : Tree → Option Stop
-stop_of_tree t = option_or (option_map Limit (first_limit t)) (option_map Range (outside_of t))
+abbrev error_of_tree : Tree → Option InputError
+error_of_tree t = option_or (option_map Limit (first_limit t)) (option_map Range (outside_of t))
 
-none_of_tree : (points sweeps : ℕ) → 1 ≤ points → points ≤ 500000 → sweeps ≤ 1000000 → stop_of_tree (tree points sweeps (pos (points + 1))) ≡ None
+none_of_tree : (points sweeps : ℕ) → 1 ≤ points → points ≤ 500000 → sweeps ≤ 1000000 → error_of_tree (tree points sweeps (pos (points + 1))) ≡ None
 none_of_tree points sweeps some few fewer = rw (no_limit_passed points sweeps few fewer, none_outside points sweeps some) refl
 
 -- whatever digits stand for the sizes
 none_of_digits : (ds es : List ℕ) → AreDigits ds → AreDigits es → 1 ≤ decimal ds → decimal ds ≤ 500000 → decimal es ≤ 1000000 → due_of_refusal Comments (source ds es) [] ≡ None
 none_of_digits ds es a b some few fewer =
     rw (source-faultless ds es a b, source-ends ds es a b, source-entries ds es a b, statements-faultless ds es few a b)
-    (ap (λ t. option_map (due_of_stop Comments) (stop_of_tree t)) (program-is ds es few a b) ∙ ap (option_map (due_of_stop Comments)) (none_of_tree (decimal ds) (decimal es) some few fewer))
+    (ap (λ t. option_map (due_of_error Comments) (error_of_tree t)) (program-is ds es few a b) ∙ ap (option_map (due_of_error Comments)) (none_of_tree (decimal ds) (decimal es) some few fewer))
 
 pub never_refused : (points sweeps : ℕ) → 1 ≤ points → points ≤ 500000 → sweeps ≤ 1000000 → due_of_refusal Comments (bench_source points sweeps) [] ≡ None
 never_refused points sweeps some few fewer =

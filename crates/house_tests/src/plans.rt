@@ -4,7 +4,7 @@
 use comm_system::Obligation;
 use f77_lines::MOST_BYTES;
 use obligation_numbers::{obligation_at, obligation_count};
-use plan_input::{Stop, read_fitting, read_source};
+use plan_input::{InputError, read_fitting, read_source};
 use std::alloc::{AllocError, Global};
 use std::test::Fail;
 
@@ -31,7 +31,7 @@ fn obligation(alloc: Global, bytes: &[u8], number: u64) -> Result<String, AllocE
             Some(found) => shown(alloc, found, count),
             None => format!(in alloc; "none of {count}"),
         },
-        Err(stop) => format!(in alloc; "{stop}"),
+        Err(error) => format!(in alloc; "{error}"),
     }
 }
 
@@ -39,9 +39,9 @@ fn obligation_behind(
     alloc: Global,
     bytes: &[u8],
     number: u64,
-) -> Result<(Option<Obligation>, u64), Stop> {
+) -> Result<(Option<Obligation>, u64), InputError> {
     if bytes.len() > MOST_BYTES {
-        return Err(Stop::TooLong);
+        return Err(InputError::TooLong);
     }
     let (program, rest) = read_source(alloc, bytes)?;
     let plan = read_fitting(alloc, &program, &bytes[rest..])?;

@@ -1,4 +1,4 @@
 pub mod Sources
 pub mod Statuses
-pub mod StopText
-pub mod Stops
+pub mod ErrorText
+pub mod Errors

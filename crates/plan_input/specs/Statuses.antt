@@ -4,8 +4,8 @@ use Rattle.f77_program.specs.declared.refusal.Refusal.{Refusal}
 use Rattle.f77_program.specs.declared.refusal.Refusal.TheVariants as refusals
 use Rattle.plan_input.specs.declared.status.Status.{Status}
 use Rattle.plan_input.specs.declared.status.Status.TheVariants as statuses
-use Rattle.plan_input.specs.declared.stop.Stop.{Stop}
-use Rattle.plan_input.specs.declared.stop.Stop.TheVariants.{BadSweep, BadWords, Limit, Line, Misfit, NoMemory, Range, ReadFault, Statement, Syntax, TooLong, WriteFault}
+use Rattle.plan_input.specs.declared.error.InputError.{InputError}
+use Rattle.plan_input.specs.declared.error.InputError.TheVariants.{BadSweep, BadWords, Limit, Line, Misfit, NoMemory, Range, ReadFault, Statement, Syntax, TooLong, WriteFault}
 
 -- the number of a status, with which the process ends
 abbrev pub code_of : Status → ℕ
@@ -24,8 +24,8 @@ statement_status (refusals.Statement fault line) = statuses.SourceRefused
 statement_status (refusals.BadSetting index) = statuses.BadWords
 statement_status refusals.NoMemory = statuses.SourceRefused
 
--- the status with which the process ends where it stops so
-abbrev pub status_of : Stop → Status
+-- the status with which the process ends by an error
+abbrev pub status_of : InputError → Status
 status_of (Line refusal) = statuses.SourceRefused
 status_of (Statement refusal) = statement_status refusal
 status_of (Limit limit) = statuses.SourceRefused
@@ -40,7 +40,7 @@ status_of (Misfit refusal) = statuses.PlanRefused
 status_of TooLong = statuses.TooLong
 
 -- a line on standard output tells it: all but a failed read or write, and want of memory
-abbrev pub is_told : Stop → Bool
+abbrev pub is_told : InputError → Bool
 is_told (Line refusal) = true
 is_told (Statement refusal) = true
 is_told (Limit limit) = true

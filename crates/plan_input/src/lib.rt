@@ -2,10 +2,10 @@
 //! plan, or why there are none, with the line that tells it and the status of the process.
 #![tactic(auto)]
 
+mod error;
 mod reading;
 mod status;
-mod stop;
 
+pub use error::InputError;
 pub use reading::{read_fitting, read_inside, read_source};
 pub use status::{Status, status_of_write};
-pub use stop::Stop;

@@ -4,7 +4,7 @@ ghost use Rattle.std.specs.Prelude.{◌≡◌, ◌⊎◌, OnErr, OnOk};
 ghost use Rattle.plan_input.specs.Statuses.{code_of};
 ghost use Rattle.plan_input.specs.declared.status.Status.TheVariants as statuses;
 
-use crate::stop::Stop;
+use crate::error::InputError;
 use std::io;
 
 /// How a process ends, which it does with this number.
@@ -54,6 +54,6 @@ pub fn status_of_write(written: io::Result<()>, status: Status) -> Status
 {
     match written {
         Ok(()) => status,
-        Err(error) => Stop::from_fault(error, Stop::WriteFault).status(),
+        Err(error) => InputError::from_fault(error, InputError::WriteFault).status(),
     }
 }

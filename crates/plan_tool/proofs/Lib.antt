@@ -1,2 +1,2 @@
 mod Sources
-mod Stopped
+mod Untold

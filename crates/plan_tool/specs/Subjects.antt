@@ -1,13 +1,13 @@
 -- The plan that something is told of, what is told, and why nothing is.
 use Rattle.std.specs.Prelude.{ℕ, ℤ, ◌≡◌, List}
-use Rattle.asked_plan.specs.Plans.{IsBehind, IsPlanned, IsStop, IsStopBehind}
+use Rattle.asked_plan.specs.Plans.{IsBehind, IsPlanned, IsError, IsErrorBehind}
 use Rattle.comm_system.specs.Obligations.{obligations_of}
 use Rattle.explain_plan.specs.Untold as explain
 use Rattle.f77_scene.specs.Scene.{Name}
 use Rattle.nest_tree.specs.Tree.{Tree}
 use Rattle.plan_checker.specs.declared.refusal.PlanRefusal.{PlanRefusal}
-use Rattle.plan_input.specs.declared.stop.Stop.{Stop}
-use Rattle.plan_input.specs.declared.stop.Stop.TheVariants.{Misfit, NoMemory}
+use Rattle.plan_input.specs.declared.error.InputError.{InputError}
+use Rattle.plan_input.specs.declared.error.InputError.TheVariants.{Misfit, NoMemory}
 use Rattle.plan_systems.specs.SystemsText.{systems_text}
 use Rattle.plan_words.specs.declared.request.Subject.{Subject}
 use Rattle.plan_words.specs.declared.request.Subject.TheVariants.{Behind, For}
@@ -21,9 +21,9 @@ IsPlanOf Behind bytes settings tree plan = IsBehind bytes settings tree plan
 IsPlanOf (For workers choice) bytes settings tree plan = IsPlanned workers choice bytes settings tree plan
 
 -- There is no such plan.
-abbrev pub IsStopFor : Subject → List ℕ → List (Name × ℤ) → Stop → Type 0
-IsStopFor Behind bytes settings stop = IsStopBehind bytes settings stop
-IsStopFor (For workers choice) bytes settings stop = IsStop workers choice bytes settings stop
+abbrev pub IsErrorFor : Subject → List ℕ → List (Name × ℤ) → InputError → Type 0
+IsErrorFor Behind bytes settings error = IsErrorBehind bytes settings error
+IsErrorFor (For workers choice) bytes settings error = IsError workers choice bytes settings error
 
 -- What is told is of that plan, and there is one true reason for each question that it raises.
 pub record IsAccount (subject : Subject) (bytes : List ℕ) (settings : List (Name × ℤ)) (tree : Tree) (a : Account) : Type 0 where
@@ -31,10 +31,10 @@ pub record IsAccount (subject : Subject) (bytes : List ℕ) (settings : List (Na
   pub reasons : AreReasons tree a
 
 -- Nothing is told: since memory ran out; since there is no plan; or since it is refused, and for no obligation.
-pub data IsUntold (subject : Subject) (bytes : List ℕ) (settings : List (Name × ℤ)) (stop : Stop) : Type 0 where
-  memory : (is : stop ≡ NoMemory) → IsUntold subject bytes settings stop
-  planless : (is : IsStopFor subject bytes settings stop) → IsUntold subject bytes settings stop
-  failed : (tree : Tree) (plan : Plan) (has : IsPlanOf subject bytes settings tree plan) (refusal : PlanRefusal) (is : explain.IsUntold tree plan refusal) (told : stop ≡ Misfit refusal) → IsUntold subject bytes settings stop
+pub data IsUntold (subject : Subject) (bytes : List ℕ) (settings : List (Name × ℤ)) (error : InputError) : Type 0 where
+  memory : (is : error ≡ NoMemory) → IsUntold subject bytes settings error
+  planless : (is : IsErrorFor subject bytes settings error) → IsUntold subject bytes settings error
+  failed : (tree : Tree) (plan : Plan) (has : IsPlanOf subject bytes settings tree plan) (refusal : PlanRefusal) (is : explain.IsUntold tree plan refusal) (told : error ≡ Misfit refusal) → IsUntold subject bytes settings error
 
 -- The text is that of the obligations of that plan.
 pub record AreSystems (subject : Subject) (bytes : List ℕ) (settings : List (Name × ℤ)) (text : List ℕ) : Type 0 where

@@ -5,12 +5,12 @@ ghost use Rattle.c_text.specs.Files.{EndsWithPlan};
 ghost use Rattle.f77_source.specs.Sources.{setting_of};
 ghost use Rattle.plan_text.specs.PlanText.{HasCounts, plan_text};
 ghost use Rattle.plan_tool.specs.Files.{IsEmitted};
-ghost use Rattle.asked_plan.specs.Plans.{IsStop};
+ghost use Rattle.asked_plan.specs.Plans.{IsError};
 
 use asked_plan::{Asked, Planned, plan_program};
 use c_text::{Emitted, write_c};
 use f77_lines::MOST_BYTES;
-use plan_input::Stop;
+use plan_input::InputError;
 use plan_text::write_plan;
 use std::alloc::{AllocError, Global};
 use std::thread::Threads;
@@ -24,19 +24,19 @@ pub(crate) fn emitted<R: Threads + Sync>(
     asked: &Asked,
     words: &[&str],
     bytes: &[u8],
-) -> Result<Vec<u8>, Stop>
+) -> Result<Vec<u8>, InputError>
     requires short { length bytes.now ≤ MOST_BYTES }
     requires some { 1 ≤ asked.now.workers }
     requires few { asked.now.workers ≤ 64 }
     ensures emitted { IfOk result (λ file. IsEmitted asked.now.workers asked.now.choice bytes.now
         (map setting_of asked.now.settings.now) file.items) }
-    ensures refused { IfErr result (IsStop asked.now.workers asked.now.choice bytes.now
+    ensures refused { IfErr result (IsError asked.now.workers asked.now.choice bytes.now
         (map setting_of asked.now.settings.now)) }
 {
     let found = plan_program(rt, alloc, asked, bytes)?;
     match text_of(alloc, words, bytes, &found) {
         Ok(file) => Ok(file),
-        Err(_) => Err(Stop::NoMemory),
+        Err(_) => Err(InputError::NoMemory),
     }
 }
 

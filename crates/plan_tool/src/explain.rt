@@ -14,7 +14,7 @@ use explain_plan::{Form, account_of, write_account};
 use f77_lines::MOST_BYTES;
 use f77_source::Setting;
 use nest_tree::Program;
-use plan_input::{Stop, read_inside};
+use plan_input::{InputError, read_inside};
 use plan_words::Subject;
 use reason_witness::account::{Account, given_account, made_account};
 use std::alloc::Global;
@@ -36,7 +36,7 @@ pub(crate) fn explained<R: Threads + Sync>(
     settings: &[Setting],
     form: Form,
     bytes: &[u8],
-) -> Result<Vec<u8>, Stop>
+) -> Result<Vec<u8>, InputError>
     requires short { length bytes.now ≤ MOST_BYTES }
     requires counted { IsCountedFor subject }
     ensures { IfErr result (IsUntold subject bytes.now (map setting_of settings.now)) }
@@ -52,7 +52,7 @@ fn account_in<R: Threads + Sync>(
     subject: Subject,
     settings: &[Setting],
     bytes: &[u8],
-) -> Result<Accounted, Stop>
+) -> Result<Accounted, InputError>
     requires short { length bytes.now ≤ MOST_BYTES }
     requires counted { IsCountedFor subject }
     ensures account { IfOk result (λ a. IsAccount subject bytes.now (map setting_of settings.now)
@@ -78,7 +78,7 @@ fn account_behind<R: Threads + Sync>(
     alloc: Global,
     settings: &[Setting],
     bytes: &[u8],
-) -> Result<Accounted, Stop>
+) -> Result<Accounted, InputError>
     requires { length bytes.now ≤ MOST_BYTES }
     ensures account { IfOk result (λ a. IsAccount Behind bytes.now (map setting_of settings.now)
         (tree_of a.program) a.account) }
@@ -95,7 +95,7 @@ fn account_for<R: Threads + Sync>(
     alloc: Global,
     asked: &Asked,
     bytes: &[u8],
-) -> Result<Accounted, Stop>
+) -> Result<Accounted, InputError>
     requires short { length bytes.now ≤ MOST_BYTES }
     requires some { 1 ≤ asked.now.workers }
     requires few { asked.now.workers ≤ 64 }
@@ -115,7 +115,7 @@ fn account_for<R: Threads + Sync>(
 }
 
 // What is told of the plan that is made.
-fn account_of_made(alloc: Global, asked: &Asked, bytes: &[u8]) -> Result<Accounted, Stop>
+fn account_of_made(alloc: Global, asked: &Asked, bytes: &[u8]) -> Result<Accounted, InputError>
     requires short { length bytes.now ≤ MOST_BYTES }
     requires some { 1 ≤ asked.now.workers }
     requires few { asked.now.workers ≤ 64 }

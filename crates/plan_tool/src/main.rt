@@ -34,7 +34,7 @@ use explain_plan::Form;
 use f77_lines::MOST_BYTES;
 use f77_program::Refusal;
 use f77_source::Setting;
-use plan_input::{Status, Stop, status_of_write};
+use plan_input::{InputError, Status, status_of_write};
 use plan_words::{PlanRequest, read_plan_words};
 use std::alloc::{AllocError, Global};
 use std::io::{Read, Write};
@@ -45,12 +45,12 @@ use std::{env, io};
 fn main(rt: HostRuntime) -> ExitCode {
     let text = match words_of(&rt) {
         Ok(words) => told(&rt, rt.alloc(), &words, rt.stdin()),
-        Err(error) => Err(Stop::from_fault(error, Stop::BadWords)),
+        Err(error) => Err(InputError::from_fault(error, InputError::BadWords)),
     };
     let status = match text {
         Ok(text) => status_of_write(rt.stdout().write_all(&text), Status::Done),
-        Err(stop) if stop.is_told() => status_of_write(println!(rt; "{stop}"), stop.status()),
-        Err(stop) => stop.status(),
+        Err(error) if error.is_told() => status_of_write(println!(rt; "{error}"), error.status()),
+        Err(error) => error.status(),
     };
     ExitCode::from(status.code())
 }
@@ -70,13 +70,13 @@ fn told<R: Threads + Sync, S: Read + Drop>(
     alloc: Global,
     words: &[String],
     source: S,
-) -> Result<Vec<u8>, Stop> {
+) -> Result<Vec<u8>, InputError> {
     let texts = texts_of(alloc, words)?;
     match read_plan_words(alloc, &texts) {
         Ok(request) => answer(rt, alloc, &request, source),
         Err(Refused::Shown(error)) => Ok(format!(in alloc; "{error}")?.into_bytes()),
-        Err(Refused::NoMemory) => Err(Stop::NoMemory),
-        Err(Refused::Faulty | Refused::WrongSweep) => Err(Stop::BadWords),
+        Err(Refused::NoMemory) => Err(InputError::NoMemory),
+        Err(Refused::Faulty | Refused::WrongSweep) => Err(InputError::BadWords),
     }
 }
 
@@ -97,7 +97,7 @@ fn answer<R: Threads + Sync, S: Read + Drop>(
     alloc: Global,
     request: &PlanRequest,
     source: S,
-) -> Result<Vec<u8>, Stop>
+) -> Result<Vec<u8>, InputError>
     requires { IsCounted (wanted request.now) }
 {
     let words = words_in(request);
@@ -130,25 +130,25 @@ fn words_in<'r, 'a>(request: &'r PlanRequest<'a>) -> &'r [&'a str] {
 }
 
 // The settings that words write.
-fn settings_of(alloc: Global, words: &[&str]) -> Result<Vec<Setting>, Stop> {
+fn settings_of(alloc: Global, words: &[&str]) -> Result<Vec<Setting>, InputError> {
     match read_settings(alloc, words) {
         Ok(settings) => Ok(settings),
-        Err(SettingFault::Word(index)) => Err(Stop::Statement(Refusal::BadSetting(index))),
-        Err(SettingFault::NoMemory) => Err(Stop::NoMemory),
+        Err(SettingFault::Word(index)) => Err(InputError::Statement(Refusal::BadSetting(index))),
+        Err(SettingFault::NoMemory) => Err(InputError::NoMemory),
     }
 }
 
 // All bytes of a source, of which there are at most so many.
-fn read_all<S: Read + Drop>(alloc: Global, source: S) -> Result<Vec<u8>, Stop>
+fn read_all<S: Read + Drop>(alloc: Global, source: S) -> Result<Vec<u8>, InputError>
     ensures { IfOk result (λ bytes. length bytes.items ≤ MOST_BYTES) }
 {
     let mut bytes = Vec::new(alloc);
     let most = MOST_BYTES as u64 + 1;
     if let Err(error) = source.take(most).read_to_end(&mut bytes) {
-        return Err(Stop::from_fault(error, Stop::ReadFault));
+        return Err(InputError::from_fault(error, InputError::ReadFault));
     }
     if bytes.len() > MOST_BYTES {
-        Err(Stop::TooLong)
+        Err(InputError::TooLong)
     } else {
         Ok(bytes)
     }

@@ -20,9 +20,9 @@ use Rattle.plan_checker.specs.declared.refusal.PlanRefusal.TheVariants.{Shape}
 use Rattle.plan_checker.specs.Proved.{first_unproved}
 use Rattle.plan_checker.proofs.Certified.{accepted_where_none, proved_where_none}
 use Rattle.plan_input.specs.Sources.{behind_end}
-use Rattle.plan_input.specs.StopText.{text_of_stop}
-use Rattle.plan_input.specs.Stops.{IsTextOf, no_text, unfit}
-use Rattle.plan_input.specs.declared.stop.Stop.TheVariants.{Misfit, Syntax}
+use Rattle.plan_input.specs.ErrorText.{text_of_error}
+use Rattle.plan_input.specs.Errors.{IsTextOf, no_text, unfit}
+use Rattle.plan_input.specs.declared.error.InputError.TheVariants.{Misfit, Syntax}
 use Rattle.command_words.specs.Wanted.{Wanted, sequential, verify, swept, planned, run, bench}
 use Rattle.command_words.specs.declared.request.PlanChoice.TheVariants.{Made, Barrier, Given}
 use Rattle.spmd_answer.specs.Due.{Due, IsDueOf, IsDueOn, IsFirstOr, Readings, readings, settings_for, swept_text, behind_of, done, due_of_refusal, line, makes_plan, plan_refused, unaccepted, written}
@@ -88,11 +88,11 @@ taken_where_none (Some workers) tree bytes plan text none =
 refused_or_fine : (reason_of : Plan → Option PlanRefusal) (bytes : List ℕ) → ((text : List ℕ) → IsRefusedWith reason_of bytes text → ⊥) → ((plan : Plan) → IsTextOf plan bytes → reason_of plan ≡ None → ⊥) → ⊥
 refused_or_fine reason_of bytes unrefused unfine =
     read_or_alien bytes (λ text. by_reason text.0 (record { shown = text.1; bytes_are = text.2 }) (reason_of text.0) refl)
-    (λ n alien. unrefused (text_of_stop (Syntax (syntaxes.Line n))) (record { stop = Syntax (syntaxes.Line n); is = no_text n alien refl; text_is = refl }))
+    (λ n alien. unrefused (text_of_error (Syntax (syntaxes.Line n))) (record { error = Syntax (syntaxes.Line n); is = no_text n alien refl; text_is = refl }))
   where
     by_reason : (plan : Plan) → IsTextOf plan bytes → (o : Option PlanRefusal) → reason_of plan ≡ o → ⊥
     by_reason plan text None first = unfine plan text first
-    by_reason plan text (Some reason) first = unrefused (text_of_stop (Misfit reason)) (record { stop = Misfit reason; is = unfit plan text reason first refl; text_is = refl })
+    by_reason plan text (Some reason) first = unrefused (text_of_error (Misfit reason)) (record { error = Misfit reason; is = unfit plan text reason first refl; text_is = refl })
 
 refused_or_taken : (asked : Option ℕ) (tree : Tree) (bytes : List ℕ) → ((text : List ℕ) → IsRefusedPlan asked tree bytes text → ⊥) → ((plan : Plan) → IsTaken asked tree bytes plan → ⊥) → ⊥
 refused_or_taken asked tree bytes unrefused untaken =

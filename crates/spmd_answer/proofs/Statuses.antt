@@ -11,14 +11,14 @@ use Rattle.f77_scene.specs.Scene.{Name}
 use Rattle.command_words.specs.Wanted.{Wanted}
 use Rattle.plan_input.proofs.Firsts.{first_some}
 use Rattle.plan_input.specs.Sources.{behind_end}
-use Rattle.plan_input.specs.Stops.{first_stop, stop_of_fault}
+use Rattle.plan_input.specs.Errors.{first_error, error_of_fault}
 use Rattle.plan_input.specs.declared.status.Status.{Status}
 use Rattle.plan_input.specs.declared.status.Status.TheVariants.{Done, SourceRefused, BadWords, ReadFault, WriteFault, NoMemory, PlanRefused, TooLong}
-use Rattle.plan_input.specs.declared.stop.Stop.{Stop}
-use Rattle.plan_input.specs.declared.stop.Stop.TheVariants.{BadSweep, Statement}
+use Rattle.plan_input.specs.declared.error.InputError.{InputError}
+use Rattle.plan_input.specs.declared.error.InputError.TheVariants.{BadSweep, Statement}
 use Rattle.spmd_answer.specs.declared.source.Behind.{Behind}
 use Rattle.spmd_answer.specs.declared.source.Behind.TheVariants.{Comments, PlanText, SweptPlan}
-use Rattle.spmd_answer.specs.Due.{Due, IsDueOf, IsDueOn, IsFirstOr, behind_of, Readings, due_for, due_of_refusal, due_of_stop, is_alone, readings, setting_stop, settings_for, unaccepted, written}
+use Rattle.spmd_answer.specs.Due.{Due, IsDueOf, IsDueOn, IsFirstOr, behind_of, Readings, due_for, due_of_refusal, due_of_error, is_alone, readings, setting_error, settings_for, unaccepted, written}
 use Rattle.spmd_answer.specs.Statuses.{is_due}
 
 -- 1 and 2
@@ -48,35 +48,35 @@ refuses-done : refuses Done ≡ true → ⊥
 unfolding refuses
 refuses-done h = cc
 
-either_stop : (b : Bool) (s t : Stop) → IsRefusal (due_for s) → IsRefusal (due_for t) → IsRefusal (due_for (if b then s else t))
-either_stop true s t one other = one
-either_stop false s t one other = other
+either_error : (b : Bool) (s t : InputError) → IsRefusal (due_for s) → IsRefusal (due_for t) → IsRefusal (due_for (if b then s else t))
+either_error true s t one other = one
+either_error false s t one other = other
 
-of_setting : (behind : Behind) (index : ℕ) → IsRefusal (due_for (setting_stop behind index))
+of_setting : (behind : Behind) (index : ℕ) → IsRefusal (due_for (setting_error behind index))
 unfolding refuses
 of_setting Comments index = refl
 of_setting PlanText index = refl
-of_setting SweptPlan index = either_stop (index == 1) BadSweep (Statement (BadSetting (index - 1))) refl refl
+of_setting SweptPlan index = either_error (index == 1) BadSweep (Statement (BadSetting (index - 1))) refl refl
 
-of_fault : (behind : Behind) (r : Refusal) → IsRefusal (due_of_stop behind (stop_of_fault r))
+of_fault : (behind : Behind) (r : Refusal) → IsRefusal (due_of_error behind (error_of_fault r))
 unfolding refuses
 of_fault behind (bad_line refusal) = refl
 of_fault behind (bad_statement fault n) = refl
 of_fault behind (bad_setting index) = of_setting behind index
 
-of_faults : (behind : Behind) (o : Option Refusal) → IfSome o (λ r. IsRefusal (due_of_stop behind (stop_of_fault r)))
+of_faults : (behind : Behind) (o : Option Refusal) → IfSome o (λ r. IsRefusal (due_of_error behind (error_of_fault r)))
 of_faults behind None = tt
 of_faults behind (Some r) = of_fault behind r
 
-mapped_some : (behind : Behind) (o : Option Stop) → IfSome o (λ s. IsRefusal (due_of_stop behind s)) → IfSome (option_map (due_of_stop behind) o) IsRefusal
+mapped_some : (behind : Behind) (o : Option InputError) → IfSome o (λ s. IsRefusal (due_of_error behind s)) → IfSome (option_map (due_of_error behind) o) IsRefusal
 mapped_some behind None h = tt
 mapped_some behind (Some s) h = h
 
 of_refusal : (behind : Behind) (bytes : List ℕ) (settings : List (Name × ℤ)) → IfSome (due_of_refusal behind bytes settings) IsRefusal
 unfolding refuses
 of_refusal behind bytes settings =
-    mapped_some behind (first_stop (is_alone behind) bytes settings)
-    (first_some (λ s. IsRefusal (due_of_stop behind s)) (is_alone behind) bytes settings (λ r. refl) (of_faults behind (first_fault_in (entries_of bytes) settings)) (λ l. refl) (λ o. refl))
+    mapped_some behind (first_error (is_alone behind) bytes settings)
+    (first_some (λ s. IsRefusal (due_of_error behind s)) (is_alone behind) bytes settings (λ r. refl) (of_faults behind (first_fault_in (entries_of bytes) settings)) (λ l. refl) (λ o. refl))
 
 -- a source that is refused isn't done
 pub refused_or_done : (behind : Behind) (bytes : List ℕ) (settings : List (Name × ℤ)) (d : Due) → due_of_refusal behind bytes settings ≡ Some d → d.status ≡ Done → ⊥

@@ -18,11 +18,11 @@ use Rattle.plan_checker.specs.declared.refusal.PlanRefusal.{PlanRefusal}
 use Rattle.plan_checker.specs.Proved.{first_unproved}
 use Rattle.plan_checker.proofs.Certified.{none_where_accepted, none_where_proved}
 use Rattle.plan_input.specs.Sources.{behind_end}
-use Rattle.plan_input.specs.StopText.{text_of_stop}
-use Rattle.plan_input.specs.Stops.{IsRefusedBy, IsTextOf, no_text, unfit}
+use Rattle.plan_input.specs.ErrorText.{text_of_error}
+use Rattle.plan_input.specs.Errors.{IsRefusedBy, IsTextOf, no_text, unfit}
 use Rattle.plan_input.specs.declared.status.Status.TheVariants.{Done}
-use Rattle.plan_input.specs.declared.stop.Stop.{Stop}
-use Rattle.plan_input.specs.declared.stop.Stop.TheVariants.{Misfit, Syntax}
+use Rattle.plan_input.specs.declared.error.InputError.{InputError}
+use Rattle.plan_input.specs.declared.error.InputError.TheVariants.{Misfit, Syntax}
 use Rattle.command_words.specs.Wanted.{Wanted, sequential, verify, swept, planned, run, bench}
 use Rattle.command_words.specs.declared.request.PlanChoice.TheVariants.{Made, Barrier, Given}
 use Rattle.spmd_answer.specs.Due.{Due, IsDueOf, IsDueOn, IsFirstOr, IsRefusalFor, IsTextFor, Readings, readings, settings_for, swept_text, behind_of, done, due_of_refusal, makes_plan, plan_refused, unaccepted, written}
@@ -40,20 +40,20 @@ no_reason : (asked : Option ℕ) (tree : Tree) (plan : Plan) → HasWorkers aske
 no_reason None tree plan workers accepted = none_where_accepted tree plan accepted
 no_reason (Some n) tree plan workers accepted = rw (eqb-refl n plan.workers workers) (none_where_accepted tree plan accepted)
 
-one_stop : (reason_of : Plan → Option PlanRefusal) (bytes : List ℕ) (s t : Stop) → IsRefusedBy reason_of bytes s → IsRefusedBy reason_of bytes t → s ≡ t
-one_stop reason_of bytes s t (no_text m u p) (no_text n v q) = p ∙ ap (λ k. Syntax (syntaxes.Line k)) (one_alien bytes m n u v) ∙ sym q
-one_stop reason_of bytes s t (no_text m u p) (unfit y text r first q) = absurd (u.no_text (y, text.shown, text.bytes_are))
-one_stop reason_of bytes s t (unfit x text r first p) (no_text n v q) = absurd (v.no_text (x, text.shown, text.bytes_are))
-one_stop reason_of bytes s t (unfit x text r first p) (unfit y text' r' first' q) =
+one_error : (reason_of : Plan → Option PlanRefusal) (bytes : List ℕ) (s t : InputError) → IsRefusedBy reason_of bytes s → IsRefusedBy reason_of bytes t → s ≡ t
+one_error reason_of bytes s t (no_text m u p) (no_text n v q) = p ∙ ap (λ k. Syntax (syntaxes.Line k)) (one_alien bytes m n u v) ∙ sym q
+one_error reason_of bytes s t (no_text m u p) (unfit y text r first q) = absurd (u.no_text (y, text.shown, text.bytes_are))
+one_error reason_of bytes s t (unfit x text r first p) (no_text n v q) = absurd (v.no_text (x, text.shown, text.bytes_are))
+one_error reason_of bytes s t (unfit x text r first p) (unfit y text' r' first' q) =
     let same = one_plan x y bytes text text' in
     let reasons : r ≡ r' = one_element (reason_of y) r r' (ap reason_of (sym same) ∙ first) first' in
     p ∙ ap Misfit reasons ∙ sym q
 
 one_reason : (reason_of : Plan → Option PlanRefusal) (bytes s t : List ℕ) → IsRefusedWith reason_of bytes s → IsRefusedWith reason_of bytes t → s ≡ t
-one_reason reason_of bytes s t p q = p.text_is ∙ ap text_of_stop (one_stop reason_of bytes p.stop q.stop p.is q.is) ∙ sym q.text_is
+one_reason reason_of bytes s t p q = p.text_is ∙ ap text_of_error (one_error reason_of bytes p.error q.error p.is q.is) ∙ sym q.text_is
 
 -- bytes that are refused as a plan are the text of none against which there is no reason
-refused_or_fine : (reason_of : Plan → Option PlanRefusal) (bytes : List ℕ) (s : Stop) (plan : Plan) → IsRefusedBy reason_of bytes s → IsTextOf plan bytes → reason_of plan ≡ None → ⊥
+refused_or_fine : (reason_of : Plan → Option PlanRefusal) (bytes : List ℕ) (s : InputError) (plan : Plan) → IsRefusedBy reason_of bytes s → IsTextOf plan bytes → reason_of plan ≡ None → ⊥
 refused_or_fine reason_of bytes s plan (no_text m u p) text none = u.no_text (plan, text.shown, text.bytes_are)
 refused_or_fine reason_of bytes s plan (unfit x other r first p) text none =
     let same = one_plan x plan bytes other text in
@@ -62,11 +62,11 @@ refused_or_fine reason_of bytes s plan (unfit x other r first p) text none =
 
 pub refused_or_taken : (asked : Option ℕ) (tree : Tree) (bytes s : List ℕ) (plan : Plan) → IsRefusedPlan asked tree bytes s → IsTaken asked tree bytes plan → ⊥
 refused_or_taken asked tree bytes s plan refused is =
-    refused_or_fine (first_reason asked tree) bytes refused.stop plan refused.is is.text (no_reason asked tree plan is.workers_are is.accepted)
+    refused_or_fine (first_reason asked tree) bytes refused.error plan refused.is is.text (no_reason asked tree plan is.workers_are is.accepted)
 
 pub refused_or_proved : (tree : Tree) (bytes s : List ℕ) (plan : Plan) → IsUnprovedPlan tree bytes s → IsProvedPlan tree bytes plan → ⊥
 refused_or_proved tree bytes s plan refused is =
-    refused_or_fine (first_unproved tree) bytes refused.stop plan refused.is is.text (none_where_proved tree plan is.proved)
+    refused_or_fine (first_unproved tree) bytes refused.error plan refused.is is.text (none_where_proved tree plan is.proved)
 
 -- one text is written, where no plan is made
 one_text : (wanted : Wanted) (tree : Tree) (at : Readings) (bytes s t : List ℕ) → makes_plan wanted ≡ false → IsTextFor wanted tree at bytes s → IsTextFor wanted tree at bytes t → s ≡ t

@@ -17,12 +17,12 @@ use Rattle.command_words.specs.Wanted.{Wanted, sequential, verify, swept, planne
 use Rattle.command_words.specs.declared.request.PlanChoice.TheVariants.{Made, Barrier, Given}
 use Rattle.plan_input.specs.Sources.{behind_end}
 use Rattle.plan_input.specs.Statuses.{status_of}
-use Rattle.plan_input.specs.StopText.{text_of_stop}
-use Rattle.plan_input.specs.Stops.{first_stop}
+use Rattle.plan_input.specs.ErrorText.{text_of_error}
+use Rattle.plan_input.specs.Errors.{first_error}
 use Rattle.plan_input.specs.declared.status.Status.{Status}
 use Rattle.plan_input.specs.declared.status.Status.TheVariants.{Done, PlanRefused}
-use Rattle.plan_input.specs.declared.stop.Stop.{Stop}
-use Rattle.plan_input.specs.declared.stop.Stop.TheVariants as stops
+use Rattle.plan_input.specs.declared.error.InputError.{InputError}
+use Rattle.plan_input.specs.declared.error.InputError.TheVariants as errors
 use Rattle.plan_text.specs.PlanText.{plan_text}
 use Rattle.plan_maker.specs.Made.{IsMade}
 use Rattle.plan_maker.specs.declared.reasons.Reasons.{Reasons}
@@ -53,38 +53,38 @@ plan_refused text = record { status = PlanRefused; text = line text }
 abbrev pub done : List ℕ → Due
 done text = record { status = Done; text = text }
 
--- due with a stop: its status, and the line that tells it
-abbrev pub due_for : Stop → Due
-due_for stop = record { status = status_of stop; text = line (text_of_stop stop) }
+-- due with an error: its status, and the line that tells it
+abbrev pub due_for : InputError → Due
+due_for error = record { status = status_of error; text = line (text_of_error error) }
 
 -- a setting, by its number from 1, that isn't taken
 abbrev pub wrong_setting : ℕ → Due
-wrong_setting index = due_for (stops.Statement (BadSetting index))
+wrong_setting index = due_for (errors.Statement (BadSetting index))
 
 -- a sweep that isn't taken
 abbrev pub wrong_sweep : Due
-wrong_sweep = due_for stops.BadSweep
+wrong_sweep = due_for errors.BadSweep
 
 -- a setting, by its number from 1, that no named constant has; a sweep's own is the first, and isn't counted among those of the words
-abbrev pub setting_stop : Behind → ℕ → Stop
-setting_stop Comments index = stops.Statement (BadSetting index)
-setting_stop PlanText index = stops.Statement (BadSetting index)
-setting_stop SweptPlan index = if index == 1 then stops.BadSweep else stops.Statement (BadSetting (index - 1))
+abbrev pub setting_error : Behind → ℕ → InputError
+setting_error Comments index = errors.Statement (BadSetting index)
+setting_error PlanText index = errors.Statement (BadSetting index)
+setting_error SweptPlan index = if index == 1 then errors.BadSweep else errors.Statement (BadSetting (index - 1))
 
 -- a refusal of a statement or of a setting, as it is told
-abbrev pub statement_stop : Behind → Refusal → Stop
-statement_stop behind (refusals.Statement fault line) = stops.Statement (refusals.Statement fault line)
-statement_stop behind (BadSetting index) = setting_stop behind index
-statement_stop behind refusals.NoMemory = stops.Statement refusals.NoMemory
+abbrev pub statement_error : Behind → Refusal → InputError
+statement_error behind (refusals.Statement fault line) = errors.Statement (refusals.Statement fault line)
+statement_error behind (BadSetting index) = setting_error behind index
+statement_error behind refusals.NoMemory = errors.Statement refusals.NoMemory
 
--- a stop of a source as it is told
-abbrev pub told_as : Behind → Stop → Stop
-told_as behind (stops.Statement refusal) = statement_stop behind refusal
-told_as behind stop = stop
+-- an error of a source as it is told
+abbrev pub told_as : Behind → InputError → InputError
+told_as behind (errors.Statement refusal) = statement_error behind refusal
+told_as behind error = error
 
--- due with a stop of a source
-abbrev pub due_of_stop : Behind → Stop → Due
-due_of_stop behind stop = due_for (told_as behind stop)
+-- due with an error of a source
+abbrev pub due_of_error : Behind → InputError → Due
+due_of_error behind error = due_for (told_as behind error)
 
 -- only comments may stand behind END
 abbrev pub is_alone : Behind → Bool
@@ -94,7 +94,7 @@ is_alone SweptPlan = false
 
 -- due with the first refusal of a source, where there is one: of its lines, of what stands behind END, of its statements, of the settings' names, of its limits, of its subscripts
 abbrev pub due_of_refusal : Behind → List ℕ → List (Name × ℤ) → Option Due
-due_of_refusal behind bytes settings = option_map (due_of_stop behind) (first_stop (is_alone behind) bytes settings)
+due_of_refusal behind bytes settings = option_map (due_of_error behind) (first_error (is_alone behind) bytes settings)
 
 -- what may stand behind the END line for a request
 abbrev pub behind_of : Wanted → Behind

@@ -5,15 +5,15 @@ use Rattle.nest_tree.specs.Tree.{Tree}
 use Rattle.sync_plan.specs.declared.plan.Plan.{Plan}
 use Rattle.plan_checker.specs.Proved.{IsProved, first_unproved}
 use Rattle.plan_checker.specs.declared.refusal.PlanRefusal.{PlanRefusal}
-use Rattle.plan_input.specs.StopText.{text_of_stop}
-use Rattle.plan_input.specs.Stops.{IsRefusedBy, IsTextOf}
-use Rattle.plan_input.specs.declared.stop.Stop.{Stop}
+use Rattle.plan_input.specs.ErrorText.{text_of_error}
+use Rattle.plan_input.specs.Errors.{IsRefusedBy, IsTextOf}
+use Rattle.plan_input.specs.declared.error.InputError.{InputError}
 
 -- The line with which bytes are refused as a plan, by the first reason against a plan.
 pub record IsRefusedWith (reason_of : Plan → Option PlanRefusal) (bytes : List ℕ) (text : List ℕ) : Type 0 where
-  pub stop : Stop
-  pub is : IsRefusedBy reason_of bytes stop
-  pub text_is : text ≡ text_of_stop stop
+  pub error : InputError
+  pub is : IsRefusedBy reason_of bytes error
+  pub text_is : text ≡ text_of_error error
 
 -- The same of a plan that is to be accepted for the program, with the workers that are asked for.
 abbrev pub IsRefusedPlan : Option ℕ → Tree → List ℕ → List ℕ → Type 0

@@ -59,7 +59,7 @@ pub fn answer_to<R: Threads + Sync, G: Gate + Sync>(
             };
             answer_on(host, request, &read.0, &input)
         }
-        Err(stop) => Ok((refusal(host.alloc, told_as(stands, stop))?, None)),
+        Err(error) => Ok((refusal(host.alloc, told_as(stands, error))?, None)),
     }
 }
 
@@ -128,7 +128,7 @@ fn planned_run<R: Threads + Sync, G: Gate + Sync>(
             let (text, receipt) = text_of_run(host, program, &plan, run.engine)?;
             Ok((done(text), Some(receipt)))
         }
-        Err(stop) => Ok((refusal(host.alloc, stop)?, None)),
+        Err(error) => Ok((refusal(host.alloc, error)?, None)),
     }
 }
 
@@ -181,7 +181,7 @@ fn verified<R: Threads + Sync>(
 {
     match given_plan(rt, alloc, program, bytes, None) {
         Ok(_) => Ok((accepted(alloc)?, None)),
-        Err(stop) => Ok((refusal(alloc, stop)?, None)),
+        Err(error) => Ok((refusal(alloc, error)?, None)),
     }
 }
 

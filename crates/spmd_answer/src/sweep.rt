@@ -20,7 +20,7 @@ use f77_lines::MOST_BYTES;
 use f77_source::Setting;
 use nest_tree::Program;
 use plan_checker::{Proven, prove};
-use plan_input::{Stop, read_inside};
+use plan_input::{InputError, read_inside};
 use plan_text::read_plan;
 use std::alloc::{AllocError, Global};
 use std::thread::Threads;
@@ -105,7 +105,7 @@ pub fn swept<R: Threads + Sync, G>(
 {
     let plan = match read_plan(host.alloc, input.behind) {
         Ok(plan) => plan,
-        Err(syntax) => return refusal(host.alloc, Stop::from(syntax)),
+        Err(syntax) => return refusal(host.alloc, InputError::from(syntax)),
     };
     match prove(host.rt, host.alloc, program, &plan) {
         Ok(proven) => {
@@ -116,7 +116,7 @@ pub fn swept<R: Threads + Sync, G>(
             };
             Ok(done(sweeping.lines(host.alloc)?))
         }
-        Err(reason) => refusal(host.alloc, Stop::from(reason)),
+        Err(reason) => refusal(host.alloc, InputError::from(reason)),
     }
 }
 
@@ -187,7 +187,7 @@ fn reading_text(
 {
     match read_inside(alloc, bytes, settings, false) {
         Ok((program, _)) => fit_text(alloc, proven, &program),
-        Err(stop) => Ok(refusal(alloc, told_as(Behind::SweptPlan, stop))?.text),
+        Err(error) => Ok(refusal(alloc, told_as(Behind::SweptPlan, error))?.text),
     }
 }
 
@@ -199,6 +199,6 @@ fn fit_text(alloc: Global, proven: &Proven, program: &Program) -> Result<Vec<u8>
 {
     match proven.fits(program) {
         Ok(()) => b"ACCEPTED\n".to_vec(alloc),
-        Err(reason) => Ok(refusal(alloc, Stop::Misfit(reason))?.text),
+        Err(reason) => Ok(refusal(alloc, InputError::Misfit(reason))?.text),
     }
 }

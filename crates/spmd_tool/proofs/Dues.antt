@@ -14,9 +14,9 @@ use Rattle.f77_scene.specs.Scene.{Given as SceneGiven, Name, Scene, first_scene}
 use Rattle.plan_input.proofs.Firsts.{first_some}
 use Rattle.plan_input.specs.Sources.{behind_end}
 use Rattle.plan_input.specs.Statuses.{status_of}
-use Rattle.plan_input.specs.Stops.{first_stop, stop_of_fault}
-use Rattle.plan_input.specs.declared.stop.Stop.{Stop}
-use Rattle.plan_input.specs.declared.stop.Stop.TheVariants as stops
+use Rattle.plan_input.specs.Errors.{first_error, error_of_fault}
+use Rattle.plan_input.specs.declared.error.InputError.{InputError}
+use Rattle.plan_input.specs.declared.error.InputError.TheVariants as errors
 use Rattle.clap.specs.Words.{Text, fault_of, subcommand_of}
 use Rattle.clap.specs.declared.error.kind.ErrorKind.{ErrorKind}
 use Rattle.command_words.specs.Rule.{tool_app}
@@ -24,7 +24,7 @@ use Rattle.command_words.specs.Settings.{settings_in}
 use Rattle.command_words.specs.Wanted.{Wanted, sequential, verify, swept, planned, run, bench, Takes, AreFaulty, asks_to_show, has_wrong_sweep, is_shown, wanted_by}
 use Rattle.command_words.specs.declared.request.PlanChoice.TheVariants.{Made, Barrier, Given}
 use Rattle.spmd_answer.specs.Due as answer
-use Rattle.spmd_answer.specs.Due.{Due, IsDueOn, IsFirstOr, IsRefusalFor, IsTextFor, Readings, behind_of, done, due_for, due_of_refusal, due_of_stop, is_alone, line, makes_plan, setting_stop, plan_refused, unaccepted, written, wrong_setting}
+use Rattle.spmd_answer.specs.Due.{Due, IsDueOn, IsFirstOr, IsRefusalFor, IsTextFor, Readings, behind_of, done, due_for, due_of_refusal, due_of_error, is_alone, line, makes_plan, setting_error, plan_refused, unaccepted, written, wrong_setting}
 use Rattle.spmd_answer.specs.declared.source.Behind.{Behind}
 use Rattle.spmd_answer.specs.declared.source.Behind.TheVariants.{Comments, PlanText, SweptPlan}
 use Rattle.plan_input.specs.declared.status.Status.{Status}
@@ -56,15 +56,15 @@ shown_or_faulty words e f = let h : true ≡ false = sym e ∙ f.0 in cc
 
 -- ---- the statuses of what is due for a source
 
-map_some : (P : Due → Type 0) (behind : Behind) (o : Option Stop) → IfSome o (λ s. P (due_of_stop behind s)) → IfSome (option_map (due_of_stop behind) o) P
+map_some : (P : Due → Type 0) (behind : Behind) (o : Option InputError) → IfSome o (λ s. P (due_of_error behind s)) → IfSome (option_map (due_of_error behind) o) P
 map_some P behind None p = tt
 map_some P behind (Some s) p = p
 
 -- what holds of each refusal of a source, by the statuses that it may have
-refusal_some : (P : Due → Type 0) (behind : Behind) (bytes : List ℕ) (settings : List (Name × ℤ)) → ((text : List ℕ) → P (record { status = SourceRefused; text = text })) → IfSome (first_fault_in (entries_of bytes) settings) (λ r. P (due_of_stop behind (stop_of_fault r))) → IfSome (due_of_refusal behind bytes settings) P
+refusal_some : (P : Due → Type 0) (behind : Behind) (bytes : List ℕ) (settings : List (Name × ℤ)) → ((text : List ℕ) → P (record { status = SourceRefused; text = text })) → IfSome (first_fault_in (entries_of bytes) settings) (λ r. P (due_of_error behind (error_of_fault r))) → IfSome (due_of_refusal behind bytes settings) P
 refusal_some P behind bytes settings p faults =
-    map_some P behind (first_stop (is_alone behind) bytes settings)
-    (first_some (λ s. P (due_of_stop behind s)) (is_alone behind) bytes settings (λ r. p (due_of_stop behind (stops.Line r)).text) faults (λ l. p (due_of_stop behind (stops.Limit l)).text) (λ o. p (due_of_stop behind (stops.Range o)).text))
+    map_some P behind (first_error (is_alone behind) bytes settings)
+    (first_some (λ s. P (due_of_error behind s)) (is_alone behind) bytes settings (λ r. p (due_of_error behind (errors.Line r)).text) faults (λ l. p (due_of_error behind (errors.Limit l)).text) (λ o. p (due_of_error behind (errors.Range o)).text))
 
 refuses : Status → Bool
 refuses Done = false
@@ -76,23 +76,23 @@ refuses NoMemory = false
 refuses PlanRefused = false
 refuses TooLong = false
 
-either_status : (P : Status → Type 0) (b : Bool) (s t : Stop) → P (status_of s) → P (status_of t) → P (status_of (if b then s else t))
+either_status : (P : Status → Type 0) (b : Bool) (s t : InputError) → P (status_of s) → P (status_of t) → P (status_of (if b then s else t))
 either_status P true s t p q = p
 either_status P false s t p q = q
 
-setting_refuses : (behind : Behind) (index : ℕ) → refuses (due_for (setting_stop behind index)).status ≡ true
+setting_refuses : (behind : Behind) (index : ℕ) → refuses (due_for (setting_error behind index)).status ≡ true
 unfolding refuses
 setting_refuses Comments index = refl
 setting_refuses PlanText index = refl
-setting_refuses SweptPlan index = either_status (λ s. refuses s ≡ true) (index == 1) stops.BadSweep (stops.Statement (BadSetting (index - 1))) refl refl
+setting_refuses SweptPlan index = either_status (λ s. refuses s ≡ true) (index == 1) errors.BadSweep (errors.Statement (BadSetting (index - 1))) refl refl
 
-fault_refuses : (behind : Behind) (r : Refusal) → refuses (due_of_stop behind (stop_of_fault r)).status ≡ true
+fault_refuses : (behind : Behind) (r : Refusal) → refuses (due_of_error behind (error_of_fault r)).status ≡ true
 unfolding refuses
 fault_refuses behind (bad_line refusal) = refl
 fault_refuses behind (bad_statement fault n) = refl
 fault_refuses behind (bad_setting index) = setting_refuses behind index
 
-faults_refuse : (behind : Behind) (o : Option Refusal) → IfSome o (λ r. refuses (due_of_stop behind (stop_of_fault r)).status ≡ true)
+faults_refuse : (behind : Behind) (o : Option Refusal) → IfSome o (λ r. refuses (due_of_error behind (error_of_fault r)).status ≡ true)
 faults_refuse behind None = tt
 faults_refuse behind (Some r) = fault_refuses behind r
 
@@ -118,7 +118,7 @@ at_some P (Some r) d p e = subst P (let same : r ≡ d = cc in same) p
 -- ---- without settings no status 2 is due
 
 abbrev IsSourceFault : Behind → Refusal → Type 0
-IsSourceFault behind r = (due_of_stop behind (stop_of_fault r)).status ≡ SourceRefused
+IsSourceFault behind r = (due_of_error behind (error_of_fault r)).status ≡ SourceRefused
 
 at_line-source : (behind : Behind) (line : ℕ) (o : Option Fault) → IfSome (at_line line o) (IsSourceFault behind)
 at_line-source behind line None = tt
@@ -404,7 +404,7 @@ shown-due words bytes d asks due = one_status words bytes d (record { status = D
 
 -- wrong words have status 2
 wrong-status : (words : List Text) → (wrong_words words).status ≡ BadWords
-wrong-status words = either_status (λ s. s ≡ BadWords) (has_wrong_sweep words) stops.BadSweep stops.BadWords refl refl
+wrong-status words = either_status (λ s. s ≡ BadWords) (has_wrong_sweep words) errors.BadSweep errors.BadWords refl refl
 
 -- for wrong words status 2
 pub wrong-due : (words : List Text) (bytes : List ℕ) (d : Due) → AreWrong words → IsDue words bytes d → d.status ≡ BadWords

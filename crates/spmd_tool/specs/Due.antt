@@ -8,7 +8,7 @@ use Rattle.f77_scene.specs.Scene.{Name}
 use Rattle.sync_plan.specs.declared.plan.Plan.{Plan}
 use Rattle.asked_plan.specs.Plans.{IsTaken}
 use Rattle.plan_input.specs.Sources.{behind_end}
-use Rattle.plan_input.specs.declared.stop.Stop.TheVariants as stops
+use Rattle.plan_input.specs.declared.error.InputError.TheVariants as errors
 use Rattle.clap.specs.Words.{Text}
 use Rattle.command_words.specs.Settings.{first_fault_from, settings_in}
 use Rattle.command_words.specs.Wanted.{Wanted, sequential, verify, swept, planned, run, bench, Takes, AreFaulty, asks_to_show, has_wrong_sweep}
@@ -55,11 +55,11 @@ source_for (bench workers points sweeps) bytes = bench_source points sweeps
 
 -- due with a source of too many bytes
 abbrev pub too_long : Due
-too_long = due_for stops.TooLong
+too_long = due_for errors.TooLong
 
 -- due with words that are none that is offered, for a sweep that has not its form, or for anything else
 abbrev pub wrong_words : List Text → Due
-wrong_words words = due_for (if has_wrong_sweep words then stops.BadSweep else stops.BadWords)
+wrong_words words = due_for (if has_wrong_sweep words then errors.BadSweep else errors.BadWords)
 
 abbrev pub first_wrong : Wanted → Option ℕ
 first_wrong wanted = first_fault_from 1 (settings_of wanted)

@@ -14,7 +14,7 @@ ghost use Rattle.spmd_tool.specs.declared.answer.Trouble.TheVariants as trouble;
 use clap::Error;
 use command_words::{Refused, Request, SettingFault, read_settings, read_words};
 use f77_program::Refusal;
-use plan_input::{Status, Stop};
+use plan_input::{InputError, Status};
 use spmd_answer::{Answer, Host, Receipt, answer_to, bench_source, refusal};
 use spmd_ports::{Gate, Source};
 use std::alloc::{AllocError, Global};
@@ -64,8 +64,8 @@ pub fn answer_in<R: Threads + Sync, S: Source, G: Gate + Sync>(
     match read_words(alloc, words) {
         Ok(request) => answer_for(host, &request, source),
         Err(Refused::Shown(error)) => Ok((shown(alloc, &error)?, None)),
-        Err(Refused::Faulty) => Ok((refusal(alloc, Stop::BadWords)?, None)),
-        Err(Refused::WrongSweep) => Ok((refusal(alloc, Stop::BadSweep)?, None)),
+        Err(Refused::Faulty) => Ok((refusal(alloc, InputError::BadWords)?, None)),
+        Err(Refused::WrongSweep) => Ok((refusal(alloc, InputError::BadSweep)?, None)),
         Err(Refused::NoMemory) => Err(Trouble::NoMemory),
     }
 }
@@ -97,14 +97,14 @@ fn answer_for<R: Threads + Sync, S: Source, G: Gate + Sync>(
     let settings = match read_settings(alloc, settings_in(request)) {
         Ok(settings) => settings,
         Err(SettingFault::Word(index)) => {
-            let stop = Stop::Statement(Refusal::BadSetting(index));
-            return Ok((refusal(alloc, stop)?, None));
+            let error = InputError::Statement(Refusal::BadSetting(index));
+            return Ok((refusal(alloc, error)?, None));
         }
         Err(SettingFault::NoMemory) => return Err(Trouble::NoMemory),
     };
     match source_of(alloc, request, source) {
         Ok(bytes) => Ok(answer_to(host, request, &settings, &bytes)?),
-        Err(ReadTrouble::TooLong) => Ok((refusal(alloc, Stop::TooLong)?, None)),
+        Err(ReadTrouble::TooLong) => Ok((refusal(alloc, InputError::TooLong)?, None)),
         Err(ReadTrouble::Fault) => Err(Trouble::ReadFault),
         Err(ReadTrouble::NoMemory) => Err(Trouble::NoMemory),
     }

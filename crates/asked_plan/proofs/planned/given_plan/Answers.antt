@@ -1,6 +1,6 @@
 use Rattle.std.proofs.lemmas.Result.{err_from_is_err_and}
 use Rattle.nest_tree.specs.View.{tree_of}
-use Rattle.plan_input.specs.Stops.{IsTextOf}
+use Rattle.plan_input.specs.Errors.{IsTextOf}
 use Rattle.plan_input.proofs.Plans.{of_reason, of_syntax}
 use Rattle.asked_plan.specs.Plans.{first_reason}
 use Rattle.asked_plan.proofs.planned.given_plan.Goals as goal

@@ -3,7 +3,7 @@ use Rattle.std.proofs.lemmas.Result.{IfErr-weaker, IfOk-weaker}
 use Rattle.nest_tree.specs.View.{tree_of}
 use Rattle.command_words.specs.declared.request.PlanChoice.{PlanChoice}
 use Rattle.plan_text.proofs.Counts.{counts_of_fit, counts_of_text}
-use Rattle.asked_plan.specs.Plans.{IsPlanFor, IsPlanStopFor}
+use Rattle.asked_plan.specs.Plans.{IsPlanFor, IsPlanErrorFor}
 use Rattle.asked_plan.proofs.planned.plan_for.Goals as goal
 
 pub returns-in_ok-plan-in-Made-clause-plan : goal.returns-in_ok-plan-in-Made-clause-plan
@@ -35,7 +35,7 @@ returns-in-Given-clause-counts g c = IfOk-weaker c.given_plan.result _ _ (λ pla
 pub returns-in-Given-clause-refused : goal.returns-in-Given-clause-refused
 returns-in-Given-clause-refused g c =
     let tree = tree_of c.args.program.now in
-    IfErr-weaker c.given_plan.result _ _ (λ s h. subst (λ (choice : PlanChoice). IsPlanStopFor choice c.args.asked.now.workers tree c.args.bytes.now s) (sym c.in-Given.is) h) c.given_plan.ensures.refused
+    IfErr-weaker c.given_plan.result _ _ (λ s h. subst (λ (choice : PlanChoice). IsPlanErrorFor choice c.args.asked.now.workers tree c.args.bytes.now s) (sym c.in-Given.is) h) c.given_plan.ensures.refused
 
 pub returns-in-Given-clause-accepted : goal.returns-in-Given-clause-accepted
 returns-in-Given-clause-accepted g c = IfOk-weaker c.given_plan.result _ _ (λ plan taken. taken.accepted) c.given_plan.ensures.taken

@@ -5,7 +5,7 @@ use Rattle.nest_tree.specs.View.{tree_of}
 use Rattle.sync_plan.specs.Fit.{first_misfit}
 use Rattle.plan_checker.specs.Refusals.{first_refusal, refusal_of}
 use Rattle.plan_checker.proofs.Certified.{unmapped}
-use Rattle.plan_input.specs.Stops.{IsTextOf}
+use Rattle.plan_input.specs.Errors.{IsTextOf}
 use Rattle.plan_input.proofs.Plans.{of_reason, of_syntax}
 use Rattle.plan_input.proofs.reading.read_fitting.Goals as goal
 

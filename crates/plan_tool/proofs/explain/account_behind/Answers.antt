@@ -3,7 +3,7 @@ use Rattle.std.proofs.lemmas.Result.{err_from_is_err_and}
 use Rattle.f77_source.specs.Sources.{setting_of}
 use Rattle.nest_tree.specs.View.{tree_of}
 use Rattle.asked_plan.specs.Plans.{IsBehind}
-use Rattle.plan_tool.proofs.Stopped.{untold_plan}
+use Rattle.plan_tool.proofs.Untold.{untold_plan}
 use Rattle.plan_tool.specs.Subjects.{planless}
 use Rattle.plan_words.specs.declared.request.Subject.TheVariants.{Behind}
 use Rattle.plan_tool.proofs.explain.account_behind.Goals as goal

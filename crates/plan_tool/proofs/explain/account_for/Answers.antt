@@ -16,7 +16,7 @@ returns-in-Made-clause-account g c =
 pub returns-in-Made-clause-refused : goal.returns-in-Made-clause-refused
 returns-in-Made-clause-refused g c =
     let settings = map setting_of c.args.asked.now.settings.now in
-    IfErr-weaker c.account_of_made.result _ _ (λ stop h. subst (λ (choice : PlanChoice). IsUntold (For c.args.asked.now.workers choice) c.args.bytes.now settings stop) (sym c.in-Made.is) h) c.account_of_made.ensures.refused
+    IfErr-weaker c.account_of_made.result _ _ (λ error h. subst (λ (choice : PlanChoice). IsUntold (For c.args.asked.now.workers choice) c.args.bytes.now settings error) (sym c.in-Made.is) h) c.account_of_made.ensures.refused
 
 pub returns-in_err-program-in-Barrier-clause-refused : goal.returns-in_err-program-in-Barrier-clause-refused
 returns-in_err-program-in-Barrier-clause-refused g c =

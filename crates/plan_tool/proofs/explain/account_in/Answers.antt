@@ -21,7 +21,7 @@ returns-in-Behind-clause-account g c =
 pub returns-in-Behind-clause-refused : goal.returns-in-Behind-clause-refused
 returns-in-Behind-clause-refused g c =
     let settings = map setting_of c.args.settings.now in
-    IfErr-weaker c.account_behind.result _ _ (λ stop h. subst (λ (s : Subject). IsUntold s c.args.bytes.now settings stop) (sym c.in-Behind.is) h) c.account_behind.ensures.refused
+    IfErr-weaker c.account_behind.result _ _ (λ error h. subst (λ (s : Subject). IsUntold s c.args.bytes.now settings error) (sym c.in-Behind.is) h) c.account_behind.ensures.refused
 
 pub returns-in-For-clause-account : goal.returns-in-For-clause-account
 returns-in-For-clause-account g c =
@@ -31,4 +31,4 @@ returns-in-For-clause-account g c =
 pub returns-in-For-clause-refused : goal.returns-in-For-clause-refused
 returns-in-For-clause-refused g c =
     let settings = map setting_of c.args.settings.now in
-    IfErr-weaker c.account_for.result _ _ (λ stop h. subst (λ (s : Subject). IsUntold s c.args.bytes.now settings stop) (sym c.in-For.is) h) c.account_for.ensures.refused
+    IfErr-weaker c.account_for.result _ _ (λ error h. subst (λ (s : Subject). IsUntold s c.args.bytes.now settings error) (sym c.in-For.is) h) c.account_for.ensures.refused

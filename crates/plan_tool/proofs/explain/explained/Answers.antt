@@ -3,7 +3,7 @@ use Rattle.std.proofs.lemmas.Result.{err_from_is_err_and}
 use Rattle.f77_source.specs.Sources.{setting_of}
 use Rattle.nest_tree.specs.View.{tree_of}
 use Rattle.plan_tool.proofs.Sources.{faultless, source_of}
-use Rattle.plan_tool.proofs.Stopped.{untold_lines}
+use Rattle.plan_tool.proofs.Untold.{untold_lines}
 use Rattle.plan_tool.proofs.explain.explained.Goals as goal
 
 pub write_account-requires-clause-faultless : goal.write_account-requires-clause-faultless

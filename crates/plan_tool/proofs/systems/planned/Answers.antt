@@ -2,7 +2,7 @@ use Rattle.std.proofs.Common.{map, sym, subst}
 use Rattle.std.proofs.lemmas.Result.{IfErr-weaker, IfOk-weaker}
 use Rattle.f77_source.specs.Sources.{setting_of}
 use Rattle.nest_tree.specs.View.{tree_of}
-use Rattle.plan_tool.specs.Subjects.{IsPlanOf, IsStopFor}
+use Rattle.plan_tool.specs.Subjects.{IsPlanOf, IsErrorFor}
 use Rattle.plan_words.specs.Wanted.{IsCountedFor}
 use Rattle.plan_words.specs.declared.request.Subject.{Subject}
 use Rattle.plan_tool.proofs.systems.planned.Goals as goal
@@ -21,7 +21,7 @@ returns-in-Behind-clause-plan g c =
 pub returns-in-Behind-clause-refused : goal.returns-in-Behind-clause-refused
 returns-in-Behind-clause-refused g c =
     let settings = map setting_of c.args.settings.now in
-    IfErr-weaker c.plan_behind.result _ _ (λ stop h. subst (λ (s : Subject). IsStopFor s c.args.bytes.now settings stop) (sym c.in-Behind.is) h) c.plan_behind.ensures.refused
+    IfErr-weaker c.plan_behind.result _ _ (λ error h. subst (λ (s : Subject). IsErrorFor s c.args.bytes.now settings error) (sym c.in-Behind.is) h) c.plan_behind.ensures.refused
 
 pub returns-in-Behind-clause-fits : goal.returns-in-Behind-clause-fits
 returns-in-Behind-clause-fits g c = IfOk-weaker c.plan_behind.result _ _ (λ p h. h.fits) c.plan_behind.ensures.behind
@@ -34,4 +34,4 @@ returns-in-For-clause-plan g c =
 pub returns-in-For-clause-refused : goal.returns-in-For-clause-refused
 returns-in-For-clause-refused g c =
     let settings = map setting_of c.args.settings.now in
-    IfErr-weaker c.plan_program.result _ _ (λ stop h. subst (λ (s : Subject). IsStopFor s c.args.bytes.now settings stop) (sym c.in-For.is) h) c.plan_program.ensures.refused
+    IfErr-weaker c.plan_program.result _ _ (λ error h. subst (λ (s : Subject). IsErrorFor s c.args.bytes.now settings error) (sym c.in-For.is) h) c.plan_program.ensures.refused

@@ -4,7 +4,7 @@ use Rattle.nest_tree.specs.View.{tree_of}
 use Rattle.command_words.specs.Wanted.{wanted}
 use Rattle.f77_source.specs.Sources.{setting_of}
 use Rattle.spmd_answer.specs.Answers.{due_in}
-use Rattle.spmd_answer.proofs.Answering.{none_due, none_of_stop, of_program, of_stop, receipt_of_program, refusal_due}
+use Rattle.spmd_answer.proofs.Answering.{none_due, none_of_error, of_program, of_error, receipt_of_program, refusal_due}
 use Rattle.spmd_answer.proofs.answer.answer_to.Goals as goal
 
 pub returns-in-Ok-clause-due : goal.returns-in-Ok-clause-due
@@ -24,11 +24,11 @@ returns-in-Ok-clause-receipt g c =
 pub returns-clause-due : goal.returns-clause-due
 returns-clause-due g c =
     let all = map setting_of c.deref.result.now in
-    of_stop (wanted c.args.request.now) (map setting_of c.args.settings.now) all c.args.bytes.now c.behind_of-stands.result _ (ap (map setting_of) c.deref.ensures.value ∙ c.in_ok-given.ensures) c.behind_of-stands.ensures
-    (refusal_due c.behind_of-stands.result c.args.bytes.now all c.is_alone.result c.in-Err.stop c.told_as.result _ c.is_alone.ensures c.in-Err.ensures.refused c.told_as.ensures c.in_ok-refusal-in-Err.ensures)
+    of_error (wanted c.args.request.now) (map setting_of c.args.settings.now) all c.args.bytes.now c.behind_of-stands.result _ (ap (map setting_of) c.deref.ensures.value ∙ c.in_ok-given.ensures) c.behind_of-stands.ensures
+    (refusal_due c.behind_of-stands.result c.args.bytes.now all c.is_alone.result c.in-Err.error c.told_as.result _ c.is_alone.ensures c.in-Err.ensures.refused c.told_as.ensures c.in_ok-refusal-in-Err.ensures)
 
 pub returns-clause-receipt : goal.returns-clause-receipt
 returns-clause-receipt g c =
     let all = map setting_of c.deref.result.now in
-    none_of_stop (wanted c.args.request.now) (map setting_of c.args.settings.now) all c.args.bytes.now c.behind_of-stands.result _
-    (refusal_due c.behind_of-stands.result c.args.bytes.now all c.is_alone.result c.in-Err.stop c.told_as.result _ c.is_alone.ensures c.in-Err.ensures.refused c.told_as.ensures c.in_ok-refusal-in-Err.ensures)
+    none_of_error (wanted c.args.request.now) (map setting_of c.args.settings.now) all c.args.bytes.now c.behind_of-stands.result _
+    (refusal_due c.behind_of-stands.result c.args.bytes.now all c.is_alone.result c.in-Err.error c.told_as.result _ c.is_alone.ensures c.in-Err.ensures.refused c.told_as.ensures c.in_ok-refusal-in-Err.ensures)

@@ -24,9 +24,9 @@ returns-in_ok-text-in-Ok-clause-receipt g c =
 pub returns-in_ok-refusal-in-Err-clause-due : goal.returns-in_ok-refusal-in-Err-clause-due
 returns-in_ok-refusal-in-Err-clause-due g c =
     λ settings at.
-    of_run c.args.run.workers c.args.run.choice c.args.run.engine settings (tree_of c.args.program.now) at c.args.input.now.behind.now c.in-Err.stop _ c.in-Err.ensures.refused c.in_ok-refusal-in-Err.ensures
+    of_run c.args.run.workers c.args.run.choice c.args.run.engine settings (tree_of c.args.program.now) at c.args.input.now.behind.now c.in-Err.error _ c.in-Err.ensures.refused c.in_ok-refusal-in-Err.ensures
 
 pub returns-in_ok-refusal-in-Err-clause-receipt : goal.returns-in_ok-refusal-in-Err-clause-receipt
 returns-in_ok-refusal-in-Err-clause-receipt g c =
     λ settings.
-    none_of_run c.args.run.workers c.args.run.choice c.args.run.engine settings (tree_of c.args.program.now) c.args.input.now.behind.now c.in-Err.stop _ c.in-Err.ensures.refused c.in_ok-refusal-in-Err.ensures
+    none_of_run c.args.run.workers c.args.run.choice c.args.run.engine settings (tree_of c.args.program.now) c.args.input.now.behind.now c.in-Err.error _ c.in-Err.ensures.refused c.in_ok-refusal-in-Err.ensures

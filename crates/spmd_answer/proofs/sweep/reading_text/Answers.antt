@@ -16,4 +16,4 @@ returns-in_ok-refusal-in-Err c =
     let proven = c.args.proven.now in
     let all = map setting_of c.args.settings.now in
     reading_refused (tree_of proven.program.now) proven.plan.now c.args.bytes.now all _
-    (refusal_due SweptPlan c.args.bytes.now all _ c.in-Err.stop c.told_as.result _ refl c.in-Err.ensures.refused c.told_as.ensures c.in_ok-refusal-in-Err.ensures)
+    (refusal_due SweptPlan c.args.bytes.now all _ c.in-Err.error c.told_as.result _ refl c.in-Err.ensures.refused c.told_as.ensures c.in_ok-refusal-in-Err.ensures)

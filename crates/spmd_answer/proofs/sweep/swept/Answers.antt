@@ -4,7 +4,7 @@ use Rattle.nest_tree.specs.View.{tree_of}
 use Rattle.command_words.specs.Sweeps.{sweep_of}
 use Rattle.plan_checker.specs.Proved.{first_unproved}
 use Rattle.plan_input.proofs.Plans.{of_reason, of_syntax}
-use Rattle.plan_input.specs.Stops.{IsTextOf}
+use Rattle.plan_input.specs.Errors.{IsTextOf}
 use Rattle.spmd_answer.specs.Due.{swept_text, written}
 use Rattle.spmd_answer.specs.Inputs.{readings_of}
 use Rattle.spmd_answer.specs.Answers.{due_in}

@@ -1,7 +1,7 @@
 use Rattle.std.proofs.Common.{◌∙◌, ap, sym, if◌then◌else◌}
 use Rattle.clap.specs.Walk.{texts}
 use Rattle.command_words.specs.Wanted.{wanted}
-use Rattle.plan_input.specs.declared.stop.Stop.TheVariants.{BadSweep, BadWords}
+use Rattle.plan_input.specs.declared.error.InputError.TheVariants.{BadSweep, BadWords}
 use Rattle.spmd_answer.specs.Due.{due_for}
 use Rattle.spmd_tool.proofs.Answering.{from-asked, from-faulty, from-shown}
 use Rattle.spmd_tool.proofs.answer.answer_in.Goals as goal
