@@ -1,5 +1,5 @@
 use Rattle.nest_tree.specs.View.{tree_of}
-use Rattle.house_tests.proofs.runs.accepted.Goals as goal
+use Rattle.run_tests.proofs.runs.accepted.Goals as goal
 
 pub returns-clause-ordered : goal.returns-clause-ordered
 returns-clause-ordered g c =

@@ -1,5 +1,5 @@
 use Rattle.std.proofs.Common.{◌≡◌}
-use Rattle.house_tests.proofs.runs.to_the_end.Given as goal
+use Rattle.run_tests.proofs.runs.to_the_end.Given as goal
 
 abbrev pub invariant-loop : goal.invariant-loop
 invariant-loop l = record {

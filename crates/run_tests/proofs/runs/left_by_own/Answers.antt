@@ -3,7 +3,7 @@ use Rattle.crossbeam_utils.specs.declared.cache_padded.CachePadded.{CachePadded}
 use Rattle.seq_meaning.proofs.RunSteps.{written_back as written_whole}
 use Rattle.spmd_workers.specs.Teams.{AreOver, AreWorkersOf}
 use Rattle.spmd_workers.specs.Workers.{WorkerView}
-use Rattle.house_tests.proofs.runs.left_by_own.Goals as goal
+use Rattle.run_tests.proofs.runs.left_by_own.Goals as goal
 
 pub gathered-output-requires-clause-workers : goal.gathered-output-requires-clause-workers
 gathered-output-requires-clause-workers g c =
