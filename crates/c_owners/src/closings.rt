@@ -3,7 +3,6 @@
 ghost use Rattle.std.specs.Prelude.{◌≡◌, ◌++◌, OnOk, codes, string_bytes};
 ghost use Rattle.std.specs.Fmt.{signed_decimal};
 ghost use Rattle.nest_tree.specs.View.{head_of, tree_of};
-ghost use Rattle.owner_partition.specs.OwnInstances.{coefficient_of};
 ghost use Rattle.c_expressions.specs.Names.{variable_name};
 ghost use Rattle.c_statements.specs.Texts.{Written, code, each_of, wanted};
 ghost use Rattle.c_owners.specs.Closings.{cells_text, follows_loop, given_line, given_lines, given_text, has_trips_text, last_by_steps, last_line, last_trip_text, own_begins, privates_text, rise_in, total_begins, total_text};
@@ -141,7 +140,7 @@ impl Layout<'_> {
     fn follows_loop(&self, anchor: &Anchor, number: u32) -> bool
         ensures { result ≡ follows_loop self.now.workers anchor.now number }
     {
-        self.rise_in(anchor.dist, coefficient_of(anchor.form.loops(), number)) != 0
+        self.rise_in(anchor.dist, anchor.coefficient(number)) != 0
     }
 
     fn rise_in(&self, dist: Dist, rise: i64) -> i64
@@ -264,16 +263,4 @@ fn put_step(out: &mut String, step: i64) -> Result<(), AllocError>
     put_text(out, ", ")?;
     put_number(out, step)?;
     put_text(out, ")")
-}
-
-// The coefficient of the loop with this number, 0 where it isn't named.
-fn coefficient_of(pairs: &[(u32, i64)], number: u32) -> i64
-    ensures { result ≡ coefficient_of pairs.now number }
-{
-    for &(named, coefficient) in pairs {
-        if named == number {
-            return coefficient;
-        }
-    }
-    0
 }

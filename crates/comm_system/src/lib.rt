@@ -44,3 +44,4 @@ pub mod waits;
 
 pub use conflict_rules::{conflict, level, producer, reference};
 pub use obligation::{Obligation, Topic};
+pub use owner_rows::owner_unknowns;

@@ -28,9 +28,10 @@ pub(crate) struct Placed<'b, 'a> {
     pub(crate) around: &'b [Around<'a>],
 }
 
-// How many unknowns an owner has: itself and, where places are dealt in turn, the round's number.
-pub(crate) fn owner_unknowns(dist: Dist) -> u32
-    ensures { result ≡ unknowns_of_owner dist }
+/// How many unknowns an owner has: itself and, where places are dealt in turn, the round's number.
+pub fn owner_unknowns(dist: Dist) -> u32
+    ensures is { result ≡ unknowns_of_owner dist }
+    ensures few { result ≤ 2 }
 {
     match dist {
         Dist::Block(_) => 1,

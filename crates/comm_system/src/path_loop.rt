@@ -3,9 +3,9 @@
 ghost use Rattle.std.specs.Prelude.{◌<◌, length};
 
 use crate::obligation::{Obligation, Topic};
-use crate::rows::{push_conditions, sign_of};
+use crate::rows::push_conditions;
 use conflict_rules::reference::Reference;
-use nest_rows::Around;
+use nest_rows::{Around, Sign};
 use nest_systems::ConstraintSystem;
 use nest_systems::groups::{differ, push_loops};
 use nest_tree::{Nest, Program};
@@ -88,7 +88,14 @@ impl<'b, 'a> PathLoop<'b, 'a> {
         push_conditions(alloc, &mut system, program, &plan.conditions)?;
         push_loops(alloc, &mut system, first, self.around())?;
         let sides = (&nest.m2, &nest.m1);
-        let row = differ(alloc, sign_of(nest.step), first, self.around(), sides, -1)?;
+        let row = differ(
+            alloc,
+            Sign::of_step(nest.step),
+            first,
+            self.around(),
+            sides,
+            -1,
+        )?;
         system.push(row)?;
         Ok(system)
     }

@@ -8,7 +8,6 @@ ghost use Rattle.nest_tree.specs.Tree.{param_values};
 ghost use Rattle.nest_tree.specs.View.{head_of, tree_of};
 ghost use Rattle.farkas_cert.specs.Combination.{is_narrow};
 ghost use Rattle.nest_rows.specs.Constraints.{is_tame};
-ghost use Rattle.nest_rows.specs.Groups.{sign_of as sign_of_step};
 ghost use Rattle.nest_rows.specs.More.{HasMore};
 ghost use Rattle.nest_rows.specs.Views.{heads_of};
 ghost use Rattle.nest_rows.specs.Signs.{signed, with_sign};
@@ -311,7 +310,7 @@ fn past_next(
         (head_of nest.now)) }
     ensures tame { IfOk result (λ c. IsTrue (is_tame c)) }
 {
-    let sign = sign_of(nest.step);
+    let sign = Sign::of_step(nest.step);
     let mut terms = Pairs::new(alloc);
     terms.push(place, sign.flipped().of(1))?;
     push_form(&mut terms, sign, first, around, &nest.m2)?;
@@ -330,13 +329,6 @@ fn past_bound(sign: Sign, step: i64, constant: i64) -> i128
         Sign::Plus => i128::from(step) - 1 - i128::from(constant),
         Sign::Minus => i128::from(constant) - 1 - i128::from(step),
     }
-}
-
-// The sign that turns a loop's order to a rising one.
-pub(crate) fn sign_of(step: i64) -> Sign
-    ensures { result ≡ sign_of_step step }
-{
-    if step >= 0 { Sign::Plus } else { Sign::Minus }
 }
 
 // The subscripts of an access, dimension by dimension.

@@ -1,6 +1,6 @@
 // Words as a request.
 
-ghost use Rattle.std.specs.Prelude.{◌≡◌, ℕ, Bool, [], Some, None, map, IfOk, IfErr, option_map, option_and_then};
+ghost use Rattle.std.specs.Prelude.{◌≡◌, ℕ, Bool, [], Some, None, map, IfOk, IfErr, option_map, option_and_then, string_bytes};
 ghost use Rattle.std.specs.Char.{is_ascii_digit};
 ghost use Rattle.std.specs.List.{list_all};
 ghost use Rattle.std.specs.Str.{bytes_eq};
@@ -159,6 +159,17 @@ fn sizes_in(words: &[&str]) -> Option<(u32, u32)>
         )),
         Some(_) => None,
     }
+}
+
+/// The texts of words. The error is that memory ran out.
+pub fn texts_of(alloc: Global, words: &[String]) -> Result<Vec<&str>, AllocError>
+    ensures { IfOk result (λ refs. texts refs.items ≡ map string_bytes words.now) }
+{
+    let mut refs = Vec::new(alloc);
+    for word in words {
+        refs.push(word.as_str())?;
+    }
+    Ok(refs)
 }
 
 /// The first value of an argument.

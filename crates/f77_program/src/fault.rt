@@ -10,12 +10,12 @@ ghost use Rattle.f77_program.specs.Firsts as numbers;
 ghost use Rattle.f77_program.specs.Refusals.{fault_of};
 ghost use Rattle.f77_program.specs.Surveys.{survey_view};
 
-use crate::linear::is_small;
 use crate::measure::Measure;
 use crate::reach::Reach;
 use crate::refusal::Fault;
 use crate::survey::Survey;
 use crate::tested::Tested;
+use nest_tree::is_small;
 
 /// The first fault of names.
 pub fn first_named(tested: &Tested, survey: &Survey, declares: bool) -> Option<Fault>

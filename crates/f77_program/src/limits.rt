@@ -9,10 +9,10 @@ ghost use Rattle.f77_program.specs.Firsts.{first_of};
 ghost use Rattle.f77_program.specs.Firsts as spec;
 
 use crate::known::Known;
-use crate::linear::is_small;
 use crate::measures::measure;
 use crate::parts::parts_of;
 use f77_forms::{Bound, Declarator, Expression};
+use nest_tree::is_small;
 use std::alloc::{AllocError, Global};
 
 /// The value of an expression: sums, differences and products wrap, and what is no constant has

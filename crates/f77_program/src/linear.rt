@@ -7,7 +7,7 @@ ghost use Rattle.f77_program.specs.Linear as linear;
 ghost use Rattle.f77_program.specs.Sums.{Ascends};
 
 use crate::sums::{pairs_multiple, pairs_sum, small_product, small_sum};
-use nest_tree::{Affine, Pairs};
+use nest_tree::{Affine, Pairs, is_small};
 use std::alloc::{AllocError, Global};
 
 /// What an expression is as an affine form.
@@ -146,11 +146,4 @@ fn first_past(pairs: &[(u32, i64)]) -> Option<i64>
         }
     }
     None
-}
-
-/// Whether a number is within plus or minus 2147483647.
-pub fn is_small(number: i64) -> bool
-    ensures { result ≡ is_small number }
-{
-    number.unsigned_abs() <= 2147483647
 }

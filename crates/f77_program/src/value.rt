@@ -1,11 +1,12 @@
 // Values of constants: whole numbers of 64 bits that wrap (ANSI X3.9-1978, 6.1.5).
 
-ghost use Rattle.std.specs.Prelude.{◌≡◌, pos, ◌+ℤ◌, ◌-ℤ◌, ◌*ℤ◌};
-ghost use Rattle.nest_tree.specs.Values.{wrapped, quotient};
+ghost use Rattle.std.specs.Prelude.{◌≡◌};
+ghost use Rattle.nest_tree.specs.Values.{quotient};
 ghost use Rattle.f77_scene.specs.Expressions.{sign_value, operator_value};
 ghost use Rattle.f77_program.specs.Functions.{chosen_by};
 
 use f77_forms::{Operator, Sign};
+use nest_tree::arithmetic::{difference, product, sum, truncated_quotient};
 
 /// The value behind a leading sign.
 pub fn sign_value(sign: Sign, a: i64) -> i64
@@ -25,7 +26,7 @@ pub fn operator_value(operator: Operator, a: i64, b: i64) -> i64
         Operator::Add => sum(a, b),
         Operator::Subtract => difference(a, b),
         Operator::Multiply => product(a, b),
-        Operator::Divide => truncated_quotient(a, b),
+        Operator::Divide => quotient(a, b),
     }
 }
 
@@ -36,30 +37,13 @@ pub fn chosen(minimum: bool, a: i64, b: i64) -> i64
     if minimum { a.min(b) } else { a.max(b) }
 }
 
-fn sum(a: i64, b: i64) -> i64
-    ensures { result ≡ wrapped (a +ℤ b) }
-{
-    a.wrapping_add(b)
-}
-
-fn difference(a: i64, b: i64) -> i64
-    ensures { result ≡ wrapped (a -ℤ b) }
-{
-    a.wrapping_sub(b)
-}
-
-fn product(a: i64, b: i64) -> i64
-    ensures { result ≡ wrapped (a *ℤ b) }
-{
-    a.wrapping_mul(b)
-}
-
-fn truncated_quotient(a: i64, divisor: i64) -> i64
+// A quotient, truncated toward zero; one by 0 counts as 0.
+fn quotient(a: i64, divisor: i64) -> i64
     ensures { result ≡ quotient a divisor }
 {
     if divisor == 0 {
         0
     } else {
-        a.wrapping_div(divisor)
+        truncated_quotient(a, divisor)
     }
 }

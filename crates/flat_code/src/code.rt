@@ -5,7 +5,7 @@ ghost use Rattle.nest_tree.specs.Tree.{Expression};
 ghost use Rattle.nest_model.specs.Meaning.{value_of};
 ghost use Rattle.flat_code.specs.Codes.{IsCodeOf, are_good_steps, is_good_step, registers_after, registers_of, step_value};
 
-use crate::arithmetic::{difference, negated, product, sum, truncated_quotient};
+use nest_tree::arithmetic::{difference, negated, product, sum, truncated_quotient};
 use std::alloc::AllocError;
 
 /// One step: what the next register becomes, from earlier ones by their numbers from 0.

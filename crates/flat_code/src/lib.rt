@@ -3,7 +3,6 @@
 //! The loads come first, in text order; each step appends one register, and none is overwritten.
 #![tactic(auto)]
 
-pub mod arithmetic;
 pub mod code;
 pub mod compile;
 pub mod lines;

@@ -5,7 +5,8 @@ ghost use Rattle.std.specs.List.{AllZip};
 ghost use Rattle.nest_walk.specs.RoundsOf.{rounds_of};
 ghost use Rattle.flat_code.specs.Lines.{IsLineOf, IsLoadLine, cell_on};
 
-use nest_walk::{CellForm, LoadCells, Path, with_product};
+use nest_tree::arithmetic::with_product;
+use nest_walk::{CellForm, LoadCells, Path};
 
 /// The cells that a form gives along a loop: the one where the loop is at 0, and how far those of
 /// neighbouring values lie apart, modulo 2^64.

@@ -2,11 +2,11 @@
 
 ghost use Rattle.std.specs.Prelude.{◌≡◌, IfOk};
 ghost use Rattle.nest_tree.specs.View.{tree_of};
-ghost use Rattle.maker_marks.specs.Tries.{all_tries, body_among, has_few_sums, has_no_privates, is_admitted, nest_body, tried_at, tried_mark, tried_privates, tries_at as tries_for, tries_of};
+ghost use Rattle.maker_marks.specs.Tries.{all_tries, body_among, has_no_privates, is_admitted, nest_body, tried_at, tried_mark, tried_privates, tries_at as tries_for, tries_of};
 
 use crate::nests::{have_print, nest_among};
 use nest_tree::{Listed, Nest, Program};
-use own_scalars::{private_scalars, sum_scalars};
+use own_scalars::{has_few_sums, private_scalars};
 use owner_partition::{Mark, Privates};
 use std::alloc::{AllocError, Global};
 use sync_plan::Version;
@@ -67,16 +67,6 @@ fn has_no_privates(nest: &Nest) -> bool
     ensures { result ≡ has_no_privates (nest_body nest.now) }
 {
     private_scalars(nest).is_empty()
-}
-
-// Whether a loop has 1 to 16 sum scalars.
-fn has_few_sums(nest: &Nest) -> bool
-    ensures { result ≡ has_few_sums (nest_body nest.now) }
-{
-    match sum_scalars(nest) {
-        Some(found) => !found.is_empty(),
-        None => false,
-    }
 }
 
 /// What is tried of a loop, in order.

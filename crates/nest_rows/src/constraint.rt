@@ -3,6 +3,7 @@
 ghost use Rattle.std.specs.Prelude.{◌≡◌, IsTrue};
 ghost use Rattle.nest_tree.specs.Form.{is_small};
 ghost use Rattle.farkas_cert.specs.Combination.{is_narrow};
+ghost use Rattle.nest_rows.specs.Groups.{sign_of};
 ghost use Rattle.nest_rows.specs.Signs.{flipped, signed};
 
 use nest_tree::Pairs;
@@ -15,6 +16,13 @@ pub enum Sign {
 }
 
 impl Sign {
+    /// The sign that turns the order of a loop with this step to a rising one.
+    pub fn of_step(step: i64) -> Self
+        ensures { result ≡ sign_of step }
+    {
+        if step >= 0 { Sign::Plus } else { Sign::Minus }
+    }
+
     /// A number within plus or minus 2147483647, with this sign.
     pub fn of(self, number: i64) -> i64
         requires { IsTrue (is_small number) }

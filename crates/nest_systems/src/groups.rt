@@ -6,7 +6,7 @@ ghost use Rattle.nest_tree.specs.Form.{is_small};
 ghost use Rattle.nest_tree.specs.Tree.{Head};
 ghost use Rattle.nest_tree.specs.View.{head_of};
 ghost use Rattle.nest_rows.specs.Constraints.{is_tame, row_of};
-ghost use Rattle.nest_rows.specs.Groups.{at_most as at_most_of, counted as counted_of, differ as differ_of, equal as equal_of, compare_so, loop_has, loops_have, not_past as not_past_of, on_trip as on_trip_of, sign_of as sign_of_step};
+ghost use Rattle.nest_rows.specs.Groups.{at_most as at_most_of, counted as counted_of, differ as differ_of, equal as equal_of, compare_so, loop_has, loops_have, not_past as not_past_of, on_trip as on_trip_of};
 ghost use Rattle.nest_rows.specs.More.{HasMore};
 ghost use Rattle.nest_rows.specs.declared.constraint.Sign.TheVariants.{Plus, Minus};
 ghost use Rattle.nest_rows.specs.Signs.{flipped, signed};
@@ -106,13 +106,6 @@ fn on_trip(
     })
 }
 
-// The sign that turns a loop's order to a rising one.
-fn sign_of(step: i64) -> Sign
-    ensures { result ≡ sign_of_step step }
-{
-    if step >= 0 { Sign::Plus } else { Sign::Minus }
-}
-
 // A loop's value doesn't pass its last one.
 fn not_past(
     alloc: Global,
@@ -126,7 +119,7 @@ fn not_past(
         (head_of nest.now)) }
     ensures tame { IfOk result (λ c. IsTrue (is_tame c)) }
 {
-    let sign = sign_of(nest.step);
+    let sign = Sign::of_step(nest.step);
     let mut terms = Pairs::new(alloc);
     terms.push(place, sign.of(1))?;
     push_form(&mut terms, sign.flipped(), first, around, &nest.m2)?;

@@ -5,6 +5,7 @@ ghost use Rattle.nest_tree.specs.Form.{dot, is_small, reach_within, rises_above}
 ghost use Rattle.nest_tree.specs.Intervals.{dot_ends, multiple, plus};
 ghost use Rattle.nest_tree.specs.Values.{wrapped};
 
+use crate::arithmetic::with_product;
 use crate::tree::Parameter;
 use smallvec::SmallVec;
 use std::alloc::{AllocError, Global};
@@ -193,13 +194,6 @@ fn wrapped_sum(start: i64, pairs: &[(u32, i64)], values: &[i64]) -> i64
     sum
 }
 
-// A sum and one product more, wrapped to 64 bits.
-fn with_product(sum: i64, coefficient: i64, value: i64) -> i64
-    ensures { result ≡ wrapped (sum +ℤ (coefficient *ℤ value)) }
-{
-    sum.wrapping_add(coefficient.wrapping_mul(value))
-}
-
 // The sum of a start and of coefficients times values by number.
 fn exact_sum(start: i128, pairs: &[(u32, i64)], values: &[i64]) -> i128
     requires rising { IsTrue (rises_above 0 pairs.now) }
@@ -271,4 +265,26 @@ pub fn product(coefficient: i64, value: i64) -> i128
     ensures near { unsigned_abs result ≤ 2 ^ 94 }
 {
     i128::from(coefficient) * i128::from(value)
+}
+
+/// Whether a number is within plus or minus 2147483647, as a form's numbers are.
+pub fn is_small(number: i64) -> bool
+    ensures { result ≡ is_small number }
+{
+    number.unsigned_abs() <= 2147483647
+}
+
+/// Whether pairs are a form's: the numbers rise from 1 on, and no coefficient is 0 or past plus or
+/// minus 2147483647.
+pub fn rises(pairs: &[(u32, i64)]) -> bool
+    ensures { result ≡ rises_above 0 pairs.now }
+{
+    let mut least = 0;
+    for &(number, coefficient) in pairs {
+        if number <= least || coefficient == 0 || !is_small(coefficient) {
+            return false;
+        }
+        least = number;
+    }
+    true
 }

@@ -7,6 +7,7 @@
 //! memory a variable's element has.
 #![tactic(auto)]
 
+pub mod arithmetic;
 pub mod form;
 pub mod items;
 pub mod layout;
@@ -15,7 +16,7 @@ pub mod listed;
 pub mod program;
 pub mod tree;
 
-pub use form::{Affine, Pairs, constant_sum, product};
+pub use form::{Affine, Pairs, constant_sum, is_small, product, rises};
 pub use layout::Layout;
 pub use limits::Limit;
 pub use listed::Listed;

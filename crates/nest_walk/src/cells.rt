@@ -9,8 +9,9 @@ ghost use Rattle.nest_tree.specs.declared.tree.Parameter.{Parameter};
 ghost use Rattle.nest_walk.specs.Places.{IsThere, cell_among, numbers_of, place_among};
 ghost use Rattle.nest_walk.specs.RoundsOf.{rounds_of};
 
-use crate::form::{value_at, with_product};
+use crate::form::value_at;
 use crate::path::{MOST_LOOPS, Path};
+use nest_tree::arithmetic::{difference, with_product};
 use nest_tree::{Access, Affine, Parameter, Program};
 
 /// Where the cell of an access lies: a base and one step for each loop round it, by depth from the
@@ -105,11 +106,4 @@ fn dimension_place(bounds: (i64, i64), subscript: i64, later: i64) -> i64
 {
     let (low, high) = bounds;
     with_product(difference(subscript, low), high - low + 1, later)
-}
-
-// A difference, wrapped to 64 bits.
-fn difference(a: i64, b: i64) -> i64
-    ensures { result ≡ wrapped (a -ℤ b) }
-{
-    a.wrapping_sub(b)
 }

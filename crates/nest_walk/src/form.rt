@@ -1,6 +1,6 @@
 // The value of a form on a path.
 
-ghost use Rattle.std.specs.Prelude.{◌≡◌, ◌-◌, ℤ, ◌+ℤ◌, ◌*ℤ◌, map};
+ghost use Rattle.std.specs.Prelude.{◌≡◌, ◌-◌, ℤ, ◌+ℤ◌, map};
 ghost use Rattle.nest_tree.specs.Form.{IsForm, dot, numbered};
 ghost use Rattle.nest_tree.specs.Values.{wrapped};
 ghost use Rattle.nest_tree.specs.declared.tree.Parameter.{Parameter};
@@ -8,6 +8,7 @@ ghost use Rattle.nest_walk.specs.Paths.{dot_among, form_among};
 ghost use Rattle.nest_walk.specs.RoundsOf.{rounds_of};
 
 use crate::path::Path;
+use nest_tree::arithmetic::with_product;
 use nest_tree::{Affine, Parameter};
 
 /// The value of a form where the loops of a path and the named constants have their values, modulo
@@ -43,13 +44,6 @@ fn with_params(sum: i64, pairs: &[(u32, i64)], params: &[Parameter]) -> i64
         total = with_product(total, *coefficient, param_value(params, *number));
     }
     total
-}
-
-/// A sum and one product more, modulo 2^64.
-pub fn with_product(sum: i64, coefficient: i64, value: i64) -> i64
-    ensures { result ≡ wrapped (sum +ℤ (coefficient *ℤ value)) }
-{
-    sum.wrapping_add(coefficient.wrapping_mul(value))
 }
 
 // The value of the named constant with this number, 0 where there is none.

@@ -31,7 +31,7 @@ pub mod trips;
 
 pub use cells::CellForm;
 pub use cursor::{Cursor, Stop};
-pub use form::{value_at, with_product};
+pub use form::value_at;
 pub use instances::Instances;
 pub use path::{MOST_LOOPS, Path};
 pub use strip::Strip;

@@ -15,8 +15,9 @@ ghost use Rattle.nest_walk.specs.RoundsOf.{rounds_of};
 ghost use Rattle.nest_walk.specs.Walkable.{is_small_head};
 ghost use Rattle.nest_walk.specs.TripsLeft.{trips_left};
 
-use crate::form::{value_at, with_product};
+use crate::form::value_at;
 use crate::path::Path;
+use nest_tree::arithmetic::with_product;
 use nest_tree::{Affine, Nest, Program};
 
 /// Values in equal steps, of which so many are left.

@@ -11,4 +11,6 @@ pub mod scalars;
 mod works;
 
 pub use expressions::adds_once;
-pub use scalars::{MOST_OWN, is_private, is_sum, path_length, private_scalars, sum_scalars};
+pub use scalars::{
+    MOST_OWN, has_few_sums, is_private, is_sum, path_length, private_scalars, sum_scalars,
+};

@@ -1,7 +1,7 @@
 // The sum scalars of a loop, and its scalars that may be private.
 
 ghost use Rattle.std.specs.Io.Iter.{u64_saturate};
-ghost use Rattle.std.specs.Prelude.{◌≡◌, ◌≤◌, ◌↔◌, IfSome, IsSome, length, take};
+ghost use Rattle.std.specs.Prelude.{◌≡◌, ◌≤◌, ◌&&◌, ◌↔◌, IfSome, IsSome, length, nat_le, take};
 ghost use Rattle.nest_tree.specs.View.{statement_of, statements_from};
 ghost use Rattle.own_scalars.specs.OwnScalars.{is_private, is_stored_first, is_sum, last_stored, last_stored_in, path_length, path_length_in, private_scalars, sum_scalars};
 
@@ -132,6 +132,17 @@ pub fn sum_scalars(nest: &Nest) -> Option<ArrayVec<u32, MOST_OWN>>
         }
     }
     Some(found)
+}
+
+/// Whether a loop has 1 to 16 sum scalars. It takes no memory.
+pub fn has_few_sums(nest: &Nest) -> bool
+    ensures { result ≡ (nat_le 1 (length (sum_scalars (statements_from nest.now.items.items)))
+        && nat_le (length (sum_scalars (statements_from nest.now.items.items))) 16) }
+{
+    match sum_scalars(nest) {
+        Some(found) => !found.is_empty(),
+        None => false,
+    }
 }
 
 /// The first 16 scalars that may be private in a loop, in the order of their cells. It takes no

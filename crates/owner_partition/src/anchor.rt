@@ -1,9 +1,10 @@
 // Anchors, and the owners that they name.
 
 ghost use Rattle.std.specs.Prelude.{◌≡◌, ◌<◌, ◌≤◌, ◌↔◌, IsTrue, length, min};
-ghost use Rattle.nest_tree.specs.Form.{form_value, is_given};
+ghost use Rattle.nest_tree.specs.Form.{IsForm, form_value, is_given, is_small, rises_above};
 ghost use Rattle.nest_tree.specs.Layout.{count_of};
 ghost use Rattle.owner_partition.specs.Owners.{anchor_owner, dealt, has_places, reaches};
+ghost use Rattle.owner_partition.specs.OwnInstances.{coefficient_of};
 
 use nest_tree::Affine;
 use std::alloc::{AllocError, Global};
@@ -59,6 +60,29 @@ impl Anchor {
             && self.form.params() == other.form.params()
             && self.dist == other.dist
     }
+
+    /// The coefficient of the loop with this number in the form, 0 where it isn't named.
+    pub fn coefficient(&self, number: u32) -> i64
+        ensures value { result ≡ coefficient_of self.now.form.loops number }
+        ensures small { IsTrue (is_small result) }
+        ensures form { IsForm self.now.form }
+    {
+        coefficient_among(self.form.loops(), number)
+    }
+}
+
+// The coefficient of the loop with this number, 0 where it isn't named.
+fn coefficient_among(pairs: &[(u32, i64)], number: u32) -> i64
+    requires { IsTrue (rises_above 0 pairs.now) }
+    ensures value { result ≡ coefficient_of pairs.now number }
+    ensures small { IsTrue (is_small result) }
+{
+    for &(loop_number, coefficient) in pairs {
+        if loop_number == number {
+            return coefficient;
+        }
+    }
+    0
 }
 
 /// The processor that the anchor names where the loops and the named constants, by number from 1,

@@ -1,6 +1,7 @@
 // Which loops are what.
 
-ghost use Rattle.std.specs.Prelude.{◌≡◌, ◌-◌, ◌<◌, ◌^◌, IfOk, [], map, replicate, slice_index_or, false};
+ghost use Rattle.std.specs.Prelude.{◌≡◌, ◌-◌, ◌<◌, ◌^◌, IfOk, Some, [], length, map, replicate, slice_get, slice_index_or, false};
+ghost use Rattle.std.specs.List.{list_any};
 ghost use Rattle.nest_tree.specs.View.{statement_of, statements_from};
 ghost use Rattle.nest_model.specs.Visits.{stops_in, stops_of};
 ghost use Rattle.nest_walk.specs.Walks.{enters_but};
@@ -127,6 +128,13 @@ impl Cut {
         }
     }
 
+    /// Whether some loop is a Sum loop.
+    pub fn has_sum(&self) -> bool
+        ensures { result ≡ list_any is_sum_mark self.now.marks }
+    {
+        self.marks.iter().any(|mark| mark.is_sum())
+    }
+
     /// Whether the trips of the loop with this number, from 1, are dealt to the processors.
     pub fn is_doall(&self, number: u32) -> bool
         ensures { result ≡ is_doall (mark_of self.now.marks number) }
@@ -189,6 +197,14 @@ pub fn is_closed_at(closed: &[bool], number: u32) -> bool
 {
     let place = (number as usize).saturating_sub(1);
     place < closed.len() && closed[place]
+}
+
+/// The mark at this place, from 0.
+pub fn mark_in(marks: &[Mark], place: usize) -> Mark
+    requires { place < length marks.now }
+    ensures { slice_get marks.now place ≡ Some result }
+{
+    marks[place]
 }
 
 // How many static phases stand in these statements.

@@ -26,7 +26,7 @@ mod site;
 pub mod static_phase;
 
 pub use anchor::{Anchor, Dist, owner};
-pub use cut::{Cut, Mark, Privates, is_closed_at};
+pub use cut::{Cut, Mark, Privates, is_closed_at, mark_in};
 pub use outer_loops::OuterLoops;
 pub use own::OwnStops;
 pub use own_cursor::{Instance, OwnCursor, own_iterations};

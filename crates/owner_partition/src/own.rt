@@ -1,7 +1,7 @@
 // The instances of a phase that a processor owns.
 
 ghost use Rattle.std.specs.Prelude.{[], ◌≡◌, ◌==◌, ◌+◌, ◌-◌, ◌*◌, ◌^◌, ◌<◌, ◌≤◌, ℕ, ℤ, pos, ◌+ℤ◌, ◌-ℤ◌, ◌*ℤ◌, ◌≤ℤ◌, IsTrue, length, map, unsigned_abs};
-ghost use Rattle.nest_tree.specs.Form.{IsForm, form_value, is_small, reach_within, rises_above};
+ghost use Rattle.nest_tree.specs.Form.{IsForm, form_value, is_small, reach_within};
 ghost use Rattle.nest_tree.specs.Tree.{param_values};
 ghost use Rattle.nest_tree.specs.View.{statement_of, tree_of};
 ghost use Rattle.nest_tree.specs.WellFormed.{is_number_of, loops_of};
@@ -19,7 +19,7 @@ ghost use Rattle.nest_walk.specs.RoundsOf.{rounds_of};
 ghost use Rattle.nest_walk.specs.Texts.{StandFrom, placed_in, works};
 ghost use Rattle.nest_walk.specs.TripsLeft.{trips_left};
 ghost use Rattle.owner_partition.specs.declared.anchor.Dist.TheVariants.{Block};
-ghost use Rattle.owner_partition.specs.OwnInstances.{coefficient_of, is_owned, names_no_inner, own_values};
+ghost use Rattle.owner_partition.specs.OwnInstances.{is_owned, names_no_inner, own_values};
 ghost use Rattle.owner_partition.specs.OwnTrips.{own_numbers, strided};
 ghost use Rattle.owner_partition.specs.Owners.{own_instances};
 
@@ -34,20 +34,6 @@ pub type OwnStops<'a> = Instances<'a>;
 
 // No block lies as far from 0, and no trip's place comes back from there.
 const FAR: i128 = 1 << 125;
-
-// The coefficient of the loop with this number, 0 where it isn't named.
-fn coefficient(pairs: &[(u32, i64)], number: u32) -> i64
-    requires { IsTrue (rises_above 0 pairs.now) }
-    ensures value { result ≡ coefficient_of pairs.now number }
-    ensures small { IsTrue (is_small result) }
-{
-    for &(loop_number, coefficient) in pairs {
-        if loop_number == number {
-            return coefficient;
-        }
-    }
-    0
-}
 
 // The trips that a processor owns of so many, however far the form's value is from 0.
 fn own_trips_from(dist: Dist, workers: u32, p: u32, start: i128, rise: i128, count: u64) -> Strided
@@ -176,7 +162,7 @@ fn own_values(
 {
     let m1 = small_value(program, &nest.m1, path);
     let m2 = small_value(program, &nest.m2, path);
-    let coefficient = coefficient(anchor.form.loops(), nest.number);
+    let coefficient = anchor.coefficient(nest.number);
     let mut before = *path;
     before.push(nest.number, 0);
     let fixed = exact_value(program, &before, &anchor.form);

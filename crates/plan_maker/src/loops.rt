@@ -31,7 +31,7 @@ use maker_marks::nests::{have_print, nest_of};
 use maker_marks::tries::{Tried, tries_of};
 use nest_tree::{Listed, Nest, Program};
 use own_scalars::{MOST_OWN, is_private};
-use owner_partition::{Cut, Mark, Privates, StaticPhase};
+use owner_partition::{Cut, Mark, Privates, StaticPhase, mark_in};
 use std::alloc::{AllocError, Global};
 use sync_plan::{Plan, all_barrier};
 
@@ -309,14 +309,6 @@ fn is_open(mark: Mark) -> bool
         Mark::Outer | Mark::Single => true,
         Mark::Doall | Mark::Sum | Mark::Inner => false,
     }
-}
-
-// The mark at this place, from 0.
-fn mark_in(marks: &[Mark], place: usize) -> Mark
-    requires { place < length marks.now }
-    ensures { slice_get marks.now place ≡ Some result }
-{
-    marks[place]
 }
 
 // The verdict at this place, from 0.

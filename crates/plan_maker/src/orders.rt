@@ -3,31 +3,20 @@
 ghost use Rattle.std.specs.Prelude.{◌≡◌, ◌+◌, ◌-◌, ◌≤◌, ◌<◌, ◌^◌, ◌++◌, IfOk, OnOk, length};
 ghost use Rattle.std.specs.List.{range_with_len};
 ghost use Rattle.fm_elim.specs.Answers.{NamesEachOnce};
-ghost use Rattle.comm_system.specs.OwnerRows.{owner_unknowns as unknowns_of_owner};
-ghost use Rattle.plan_maker.specs.Orders.{elimination_order as order_of, owners_from, rounds_from, unknowns_of as unknowns_of_all};
+ghost use Rattle.plan_maker.specs.Orders.{elimination_order as order_of, owners_from, rounds_from, unknowns_of};
 
+use comm_system::owner_unknowns;
 use owner_partition::Dist;
 use std::alloc::{AllocError, Global};
-
-// How many unknowns an owner has.
-fn unknowns_of(dist: Dist) -> u32
-    ensures is { result ≡ unknowns_of_owner dist }
-    ensures few { result ≤ 2 }
-{
-    match dist {
-        Dist::Block(_) => 1,
-        Dist::Cyclic => 2,
-    }
-}
 
 /// How many unknowns these owners have.
 pub(crate) fn unknown_count(dists: &[Dist]) -> u32
     requires { length dists.now < 2 ^ 20 }
-    ensures { result ≡ unknowns_of_all dists.now }
+    ensures { result ≡ unknowns_of dists.now }
 {
     let mut count = 0;
     for &dist in dists {
-        count += unknowns_of(dist);
+        count += owner_unknowns(dist);
     }
     count
 }
@@ -46,20 +35,20 @@ fn numbers(alloc: Global, count: u32) -> Result<Vec<u32>, AllocError>
 
 // The owners from this unknown on, behind the others.
 fn push_owners(order: &mut Vec<u32>, first: u32, dists: &[Dist]) -> Result<(), AllocError>
-    requires { first + unknowns_of_all dists.now < 2 ^ 32 }
+    requires { first + unknowns_of dists.now < 2 ^ 32 }
     ensures { OnOk result (order.new.items ≡ order.old.items ++ owners_from first dists.now) }
 {
     let mut owner = first;
     for &dist in dists {
         order.push(owner)?;
-        owner += unknowns_of(dist);
+        owner += owner_unknowns(dist);
     }
     Ok(())
 }
 
 // The rounds of those that are dealt in turn, behind the others.
 fn push_rounds(order: &mut Vec<u32>, first: u32, dists: &[Dist]) -> Result<(), AllocError>
-    requires { first + unknowns_of_all dists.now < 2 ^ 32 }
+    requires { first + unknowns_of dists.now < 2 ^ 32 }
     ensures { OnOk result (order.new.items ≡ order.old.items ++ rounds_from first dists.now) }
 {
     let mut owner = first;
@@ -77,7 +66,7 @@ fn push_rounds(order: &mut Vec<u32>, first: u32, dists: &[Dist]) -> Result<(), A
 
 // The order by which the unknowns are removed.
 fn removal_order(alloc: Global, unknowns: u32, dists: &[Dist]) -> Result<Vec<u32>, AllocError>
-    requires owners { unknowns_of_all dists.now ≤ unknowns }
+    requires owners { unknowns_of dists.now ≤ unknowns }
     requires room { unknowns < 2 ^ 32 - 1 }
     requires few { length dists.now < 2 ^ 20 }
     ensures { IfOk result (λ order. order.items ≡ order_of unknowns dists.now) }
@@ -96,7 +85,7 @@ pub(crate) fn elimination_order(
     unknowns: u32,
     dists: &[Dist],
 ) -> Result<Vec<u32>, AllocError>
-    requires owners { unknowns_of_all dists.now ≤ unknowns }
+    requires owners { unknowns_of dists.now ≤ unknowns }
     requires room { unknowns < 2 ^ 32 - 1 }
     requires few { length dists.now < 2 ^ 20 }
     ensures order { IfOk result (λ order. order.items ≡ order_of unknowns dists.now) }

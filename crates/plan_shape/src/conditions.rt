@@ -2,14 +2,13 @@
 
 ghost use Rattle.std.specs.Prelude.{◌≡◌, IsTrue, length, map};
 ghost use Rattle.std.specs.List.{list_all};
-ghost use Rattle.nest_tree.specs.Form.{is_small, rises_above};
 ghost use Rattle.nest_tree.specs.declared.tree.Parameter.{Parameter};
 ghost use Rattle.sync_plan.specs.Fit.{meets, unmet, unmet_among};
 ghost use Rattle.sync_plan.specs.declared.plan.Version.TheVariants.{Three};
 ghost use Rattle.sync_plan.specs.Shape.{are_good_conditions, is_good_row};
 
 use crate::anchors::are_numbers_of;
-use nest_tree::{Parameter, constant_sum};
+use nest_tree::{Parameter, constant_sum, is_small, rises};
 use sync_plan::{ConditionRow, Conditions, Version};
 
 /// Whether conditions may stand in this version, and their rows name only named constants of which
@@ -43,26 +42,6 @@ fn is_good_row(constants: usize, row: &ConditionRow) -> bool
 {
     let coefs = row.coefs.as_slice();
     !coefs.is_empty() && rises(coefs) && are_numbers_of(constants, coefs) && is_small(row.bound)
-}
-
-// Whether the numbers rise from 1 on, and no coefficient is 0 or past plus or minus 2147483647.
-fn rises(pairs: &[(u32, i64)]) -> bool
-    ensures { result ≡ rises_above 0 pairs.now }
-{
-    let mut least = 0;
-    for &(number, coefficient) in pairs {
-        if number <= least || coefficient == 0 || !is_small(coefficient) {
-            return false;
-        }
-        least = number;
-    }
-    true
-}
-
-fn is_small(number: i64) -> bool
-    ensures { result ≡ is_small number }
-{
-    number.unsigned_abs() <= 2147483647
 }
 
 /// The first row of conditions, from 1, that the values of the named constants don't meet.

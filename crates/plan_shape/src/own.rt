@@ -1,15 +1,15 @@
 // The sum scalars and the private scalars of a plan's loops.
 
-ghost use Rattle.std.specs.Prelude.{◌≡◌, ◌&&◌, length, nat_le};
+ghost use Rattle.std.specs.Prelude.{◌≡◌};
 ghost use Rattle.std.specs.List.{list_all};
 ghost use Rattle.nest_tree.specs.View.{statement_of, statements_from};
-ghost use Rattle.own_scalars.specs.OwnScalars.{is_private, sum_scalars as sums_of};
+ghost use Rattle.own_scalars.specs.OwnScalars.{is_private};
 ghost use Rattle.owner_partition.specs.Cuts.{privates_of};
 ghost use Rattle.owner_partition.specs.Marks.{mark_of};
 ghost use Rattle.sync_plan.specs.Shape.{are_good_privates, do_rise, has_good_privates, has_good_sums, have_good_privates, have_good_sums, is_good_sum};
 
 use nest_tree::{Item, Nest};
-use own_scalars::{MOST_OWN, is_private, sum_scalars};
+use own_scalars::{MOST_OWN, has_few_sums, is_private};
 use owner_partition::{Cut, Mark};
 use sync_plan::Version;
 
@@ -43,18 +43,7 @@ fn has_good_sums(version: Version, cut: &Cut, item: &Item) -> bool
 fn is_good_sum(version: Version, mark: Mark, nest: &Nest) -> bool
     ensures { result ≡ is_good_sum version mark (statements_from nest.now.items.items) }
 {
-    !mark.is_sum() || (version.has_sums() && has_sums(nest))
-}
-
-// Whether a loop has 1 to 16 sum scalars.
-fn has_sums(nest: &Nest) -> bool
-    ensures { result ≡ (nat_le 1 (length (sums_of (statements_from nest.now.items.items)))
-        && nat_le (length (sums_of (statements_from nest.now.items.items))) 16) }
-{
-    match sum_scalars(nest) {
-        Some(found) => !found.is_empty(),
-        None => false,
-    }
+    !mark.is_sum() || (version.has_sums() && has_few_sums(nest))
 }
 
 /// Whether the private scalars of each loop in these statements may be there: none, or of a loop

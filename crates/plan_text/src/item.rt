@@ -11,11 +11,11 @@ ghost use Rattle.plan_text.specs.Words as spec;
 use crate::line::{put_cert, put_count, put_loop, put_phase, put_row, put_step};
 use crate::lines::{Lines, is_same};
 use crate::loose::{
-    behind_first, is_small, loop_of, number_32, number_64, phase_of, rises_above, row_of, step_of,
-    word_at, words_of,
+    behind_first, loop_of, number_32, number_64, phase_of, row_of, step_of, word_at, words_of,
 };
 use crate::syntax::PlanSyntax;
 use farkas_cert::Step;
+use nest_tree::{is_small, rises};
 use owner_partition::{Anchor, Mark, Privates};
 use std::alloc::Global;
 use sync_plan::{ConditionRow, Kind, Version};
@@ -172,7 +172,7 @@ fn is_shown(row: &ConditionRow) -> bool
         && is_small row.now.bound) }
 {
     let coefs = row.coefs.as_slice();
-    !coefs.is_empty() && rises_above(coefs) && is_small(row.bound)
+    !coefs.is_empty() && rises(coefs) && is_small(row.bound)
 }
 
 /// The number of steps of the certificate with this number, from its line.

@@ -4,11 +4,10 @@
 ghost use Rattle.std.specs.Prelude.{◌≡◌, ◌==◌, ◌+◌, ◌-◌, ◌%◌, [], map, drop, IfOk, position, true, ◌<◌};
 ghost use Rattle.std.specs.List.{after_first, before_first};
 ghost use Rattle.std.specs.Str.{bytes_eq};
-ghost use Rattle.nest_tree.specs.Form.{is_small, rises_above};
 ghost use Rattle.plan_text.specs.Loose as spec;
 
 use farkas_cert::{Step, Terms};
-use nest_tree::{Affine, Listed, Pairs};
+use nest_tree::{Affine, Listed, Pairs, is_small, rises};
 use owner_partition::{Anchor, Dist, Mark, Privates};
 use std::alloc::{AllocError, Global};
 use sync_plan::{ConditionRow, Kind};
@@ -160,32 +159,11 @@ fn as_form(constant: i64, loops: Pairs, params: Pairs) -> Option<Affine>
     ensures { result
         ≡ spec.as_form (record { constant = constant; loops = loops; params = params }) }
 {
-    if is_small(constant) && rises_above(loops.as_slice()) && rises_above(params.as_slice()) {
+    if is_small(constant) && rises(loops.as_slice()) && rises(params.as_slice()) {
         Some(Affine::new(constant, loops, params))
     } else {
         None
     }
-}
-
-/// Whether a number is within plus or minus 2147483647.
-pub(crate) fn is_small(number: i64) -> bool
-    ensures { result ≡ is_small number }
-{
-    number.unsigned_abs() <= 2147483647
-}
-
-/// Whether the numbers rise from 1 on, and no coefficient is 0 or past plus or minus 2147483647.
-pub(crate) fn rises_above(pairs: &[(u32, i64)]) -> bool
-    ensures { result ≡ rises_above 0 pairs.now }
-{
-    let mut least = 0;
-    for &(number, coefficient) in pairs {
-        if number <= least || coefficient == 0 || !is_small(coefficient) {
-            return false;
-        }
-        least = number;
-    }
-    true
 }
 
 fn dist_of(word: &[u8]) -> Dist

@@ -21,14 +21,14 @@ mod emit;
 mod explain;
 mod systems;
 
-ghost use Rattle.std.specs.Prelude.{◌≡◌, ◌≤◌, IfOk, length, map, string_bytes};
-ghost use Rattle.clap.specs.Walk.{texts};
+ghost use Rattle.std.specs.Prelude.{◌≡◌, ◌≤◌, IfOk, length};
 ghost use Rattle.plan_words.specs.Wanted.{IsCounted, wanted};
 
 use crate::emit::emitted;
 use crate::explain::explained;
 use crate::systems::systems_in;
 use asked_plan::Asked;
+use command_words::read::texts_of;
 use command_words::{Refused, SettingFault, read_settings};
 use explain_plan::Form;
 use f77_lines::MOST_BYTES;
@@ -36,7 +36,7 @@ use f77_program::Refusal;
 use f77_source::Setting;
 use plan_input::{InputError, Status, status_of_write};
 use plan_words::{PlanRequest, read_plan_words};
-use std::alloc::{AllocError, Global};
+use std::alloc::Global;
 use std::io::{Read, Write};
 use std::process::ExitCode;
 use std::thread::Threads;
@@ -78,17 +78,6 @@ fn told<R: Threads + Sync, S: Read + Drop>(
         Err(Refused::NoMemory) => Err(InputError::NoMemory),
         Err(Refused::Faulty | Refused::WrongSweep) => Err(InputError::BadWords),
     }
-}
-
-// The texts of words.
-fn texts_of(alloc: Global, words: &[String]) -> Result<Vec<&str>, AllocError>
-    ensures { IfOk result (λ refs. texts refs.items ≡ map string_bytes words.now) }
-{
-    let mut refs = Vec::new(alloc);
-    for word in words {
-        refs.push(word.as_str())?;
-    }
-    Ok(refs)
 }
 
 // What is told for a request. Settings are looked at in front of the source.

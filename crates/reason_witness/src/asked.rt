@@ -20,7 +20,7 @@ use crate::sought::{Asked, Candidate, Serial};
 use comm_system::phase::Phase;
 use maker_candidates::all_candidates;
 use nest_tree::{Listed, Program};
-use owner_partition::Mark;
+use owner_partition::{Mark, mark_in};
 use plan_maker::reasons::{Bar, LoopReason, PhaseReason, Reasons};
 use plan_maker::tries::tries_at;
 use std::alloc::{AllocError, Global};
@@ -114,14 +114,6 @@ fn given_loops(alloc: Global, program: &Program, plan: &Plan) -> Result<Vec<Seri
         push_open(alloc, program, mark, place + 1, &mut loops)?;
     }
     Ok(loops)
-}
-
-// The mark at this place, from 0.
-fn mark_in(marks: &[Mark], place: usize) -> Mark
-    requires { place < length marks.now }
-    ensures { slice_get marks.now place ≡ Some result }
-{
-    marks[place]
 }
 
 // All tries of a loop with this mark, by its number from 1, behind others, if it isn't dealt out.

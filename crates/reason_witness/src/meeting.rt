@@ -4,7 +4,7 @@ use comm_system::group::Group;
 use comm_system::reference::{Reference, Target};
 use comm_system::subject::Subject;
 use nest_tree::{Affine, Program};
-use owner_partition::{Anchor, Dist};
+use owner_partition::Anchor;
 use std::alloc::{AllocError, Global};
 use sync_plan::Plan;
 
@@ -59,10 +59,7 @@ struct Side<'s, 'a> {
 // How many unknowns the owner of an anchor has: itself, and the round where places are dealt in turn.
 fn owner_unknowns(anchor: Option<&Anchor>) -> usize {
     match anchor {
-        Some(anchor) => match anchor.dist {
-            Dist::Block(_) => 1,
-            Dist::Cyclic => 2,
-        },
+        Some(anchor) => comm_system::owner_unknowns(anchor.dist) as usize,
         None => 2,
     }
 }

@@ -5,8 +5,8 @@ ghost use Rattle.nest_tree.specs.Loads.{loads_among, loads_in};
 ghost use Rattle.nest_tree.specs.View.{expression_of, expressions_from};
 ghost use Rattle.nest_model.specs.Meaning.{greatest, has_value, have_values, least, value_of, values_of};
 
-use flat_code::arithmetic::{difference, negated, product, sum, truncated_quotient};
 use nest_tree::Expr;
+use nest_tree::arithmetic::{difference, negated, product, sum, truncated_quotient};
 
 /// What the items of a PRINT are evaluated from: the values of loops and of named constants by
 /// number, from 1, and those that loads gave, in text order.

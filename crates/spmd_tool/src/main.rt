@@ -6,17 +6,14 @@
 //! and ends with its status.
 #![tactic(auto)]
 
-ghost use Rattle.std.specs.Prelude.{◌≡◌, map, string_bytes, IfOk};
-ghost use Rattle.clap.specs.Walk.{texts};
-
 mod answer;
 mod laws;
 mod tool;
 
 use crate::tool::tool;
+use command_words::read::texts_of;
 use plan_input::Status;
 use spmd_ports::{NoGate, StdSink, StdSource};
-use std::alloc::{AllocError, Global};
 use std::io::ErrorKind;
 use std::process::ExitCode;
 use std::{env, io};
@@ -49,15 +46,4 @@ fn words_of(rt: &HostRuntime) -> io::Result<Vec<String>> {
         words.push(word)?;
     }
     Ok(words)
-}
-
-// The texts of words.
-fn texts_of(alloc: Global, words: &[String]) -> Result<Vec<&str>, AllocError>
-    ensures { IfOk result (λ refs. texts refs.items ≡ map string_bytes words.now) }
-{
-    let mut refs = Vec::new(alloc);
-    for word in words {
-        refs.push(word.as_str())?;
-    }
-    Ok(refs)
 }

@@ -2,7 +2,6 @@
 
 ghost use Rattle.std.specs.Prelude.{◌≡◌, IfOk, length, nat_lt, replicate};
 ghost use Rattle.std.specs.List.{list_any};
-ghost use Rattle.owner_partition.specs.Marks.{is_sum_mark};
 ghost use Rattle.sync_plan.specs.Barriers.{barrier_plan, least_version as least_for};
 ghost use Rattle.sync_plan.specs.declared.plan.Kind.TheVariants.{Barrier};
 
@@ -43,7 +42,7 @@ fn least_version(cut: &Cut) -> Version
 {
     if has_private(cut.privates()) {
         Version::Five
-    } else if has_sum(cut.as_slice()) {
+    } else if cut.has_sum() {
         Version::Four
     } else {
         Version::Two
@@ -55,13 +54,6 @@ fn has_private(privates: &[Privates]) -> bool
     ensures { result ≡ list_any (λ vs. nat_lt 0 (length vs)) privates.now }
 {
     privates.iter().any(|scalars| scalars.as_slice().len() > 0)
-}
-
-// Whether a loop is a Sum loop.
-fn has_sum(marks: &[Mark]) -> bool
-    ensures { result ≡ list_any is_sum_mark marks.now }
-{
-    marks.iter().any(|mark| mark.is_sum())
 }
 
 // So many barriers.

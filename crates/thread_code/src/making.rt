@@ -7,7 +7,6 @@ ghost use Rattle.nest_tree.specs.View.{head_of, statement_of, statements_from, t
 ghost use Rattle.nest_model.specs.Visits.{stops_in, stops_of};
 ghost use Rattle.owner_partition.specs.Cuts.{privates_of};
 ghost use Rattle.owner_partition.specs.Marks.{enters_outer};
-ghost use Rattle.owner_partition.specs.OwnInstances.{coefficient_of};
 ghost use Rattle.thread_code.specs.Closed.{AreTurnings};
 ghost use Rattle.thread_code.specs.Code.{code_in, codes_in, codes_of, finding_by, phase_at, plus_times, reduced, reduced_pairs, share_by, sums_in, times_pairs, without};
 ghost use Rattle.thread_code.specs.Tables.{table_of};
@@ -177,7 +176,7 @@ impl Maker<'_> {
             ≡ finding_by (table_of self.now.turnings.now) self.now.plan.now.workers anchor.now
             (head_of nest.now)) }
     {
-        let rise = coefficient_of(anchor.form.loops(), nest.number);
+        let rise = anchor.coefficient(nest.number);
         if rise == 0 {
             return Ok(Trips::All(anchor.copy(self.alloc)?));
         }
@@ -284,16 +283,4 @@ fn with_product(start: i64, a: i64, b: i64) -> i128
     ensures { result ≡ start +ℤ (a *ℤ b) }
 {
     i128::from(start) + times(a, b)
-}
-
-// The coefficient of the loop with this number, 0 where it isn't named.
-fn coefficient_of(pairs: &[(u32, i64)], number: u32) -> i64
-    ensures { result ≡ coefficient_of pairs.now number }
-{
-    for &(named, coefficient) in pairs {
-        if named == number {
-            return coefficient;
-        }
-    }
-    0
 }

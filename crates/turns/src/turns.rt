@@ -8,7 +8,6 @@ ghost use Rattle.sync_plan.specs.Fit.{IsFit};
 ghost use Rattle.turns.specs.CounterTurns.{counter_turns};
 ghost use Rattle.std.specs.Prelude.{MatchOption, Bool, ◌-◌, ◌==◌, not, length};
 ghost use Rattle.std.specs.List.{list_any};
-ghost use Rattle.owner_partition.specs.Marks.{is_sum_mark};
 ghost use Rattle.sync_plan.specs.Own.{own_loop};
 ghost use Rattle.sync_plan.specs.Shape.{static_phases};
 ghost use Rattle.own_cells.specs.OwnCells.{AreFew, AreOwnCells};
@@ -644,13 +643,7 @@ fn own_at<'a>(
 fn has_own(plan: &Plan) -> bool
     ensures { result ≡ has_own plan.now }
 {
-    has_sums(plan.cut.as_slice()) || has_privates(plan.cut.privates())
-}
-
-fn has_sums(marks: &[Mark]) -> bool
-    ensures { result ≡ list_any is_sum_mark marks.now }
-{
-    marks.iter().any(|mark| mark.is_sum())
+    plan.cut.has_sum() || has_privates(plan.cut.privates())
 }
 
 fn has_privates(lists: &[Privates]) -> bool

@@ -12,7 +12,7 @@ loop-one-preserved c =
     let p = c.one-item.result in
     let q = c.loop-one.q in
     let rest = map placed_seen (drop (k + 1) placed) in
-    let next : q + owner_unknowns p.anchor.now.dist ≡ q + c.owner_unknowns-q.result = ap (λ n. q + n) (sym c.owner_unknowns-q.ensures) in
+    let next : q + owner_unknowns p.anchor.now.dist ≡ q + c.owner_unknowns-q.result = ap (λ n. q + n) (sym c.owner_unknowns-q.ensures.is) in
     let more = unknowns_more placed k p c.loop-one-test.true c.one-item.is in
     record {
       rows = left-more (owners_have c.args.workers c.args.first (map placed_seen placed)) c.args.system.now c.loop-one.system c.push_owner.new.system (owners_have c.args.workers q (map placed_seen (drop k placed))) (owner_has c.args.workers q (placed_seen p)) (owners_have c.args.workers (q + c.owner_unknowns-q.result) rest) c.loop-one.invariant.rows

@@ -102,10 +102,10 @@ returns-clause-trips c =
     let counted = simp to_z-of_z at c.trip_count-count.ensures in
     let product = simp to_z-of_z at c.small_product.ensures.value in
     let rise = simp to_z-of_z at c.small_product-rise.ensures.value in
-    let named = c.coefficient-coefficient.ensures.value ∙ ap (λ pairs. coefficient_of pairs head.number) c.loops.ensures.pairs in
+    let named = c.coefficient-coefficient.ensures.value in
     let fixed = c.exact_value-fixed.ensures.value ∙ ap (λ rounds. form_value c.args.anchor.now.form (loops_in tree rounds) params) c.push.ensures in
     let taken = strided c.own_trips_from-own.result.first c.own_trips_from-own.result.stride c.own_trips_from-own.result.count in
     c.strided_values.ensures ∙ ap (λ z. map (λ k. z +ℤ (pos k *ℤ to_z w64 (of_z w64 head.step))) taken) (to_z-of_z w64 c.small_value-m1.result f1)
     ∙ ap (λ z. map (λ k. c.small_value-m1.result +ℤ (pos k *ℤ z)) taken) (to_z-of_z w64 head.step f3)
-    ∙ own_values_are params c.args.anchor.now c.args.workers c.args.p head loops c.loops.ensures.form low within c.small_value-m1.result c.small_value-m2.result c.coefficient-coefficient.result
+    ∙ own_values_are params c.args.anchor.now c.args.workers c.args.p head loops c.coefficient-coefficient.ensures.form low within c.small_value-m1.result c.small_value-m2.result c.coefficient-coefficient.result
     c.exact_value-fixed.result c.small_product.result c.small_product-rise.result c.trip_count-count.result _ _ _ c.small_value-m1.ensures c.small_value-m2.ensures named fixed product rise counted own

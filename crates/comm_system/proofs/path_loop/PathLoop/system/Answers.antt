@@ -52,7 +52,7 @@ returns-clause-made c =
     subst (λ n. HasMore (loops_have n outside n outside) s1 s2) begins (subst (λ (hs : List Head). HasMore (loops_have first hs first hs) s1 s2) one c.in_ok-push_loops.ensures) in
     let small : is_small h.step ≡ true = passes_at (λ (g : Head). is_small g.step) heads p.outside h p.store.now.steps c.nest-nest.ensures in
     let row : c.in_ok-row.row ≡ differ (sign_of h.step) (first_of tree) outside h.m2 h.m1 (negsuc 0) =
-    c.in_ok-row.ensures.is ∙ ap (λ s. differ s first (heads_of c.around-2.result.now) h.m2 h.m1 (negsuc 0)) c.sign_of.ensures
+    c.in_ok-row.ensures.is ∙ ap (λ s. differ s first (heads_of c.around-2.result.now) h.m2 h.m1 (negsuc 0)) c.of_step.ensures
     ∙ ap (λ z. differ (sign_of z) first (heads_of c.around-2.result.now) h.m2 h.m1 (negsuc 0)) (to_z-of_z w64 h.step (small_fits h.step small))
     ∙ ap (λ (hs : List Head). differ (sign_of h.step) first hs h.m2 h.m1 (negsuc 0)) two ∙ ap (λ n. differ (sign_of h.step) n outside h.m2 h.m1 (negsuc 0)) begins in
     path_system tree c.args.plan.now.conditions seen h (drop (suc p.outside) heads) vars _ s1 s2 c.push.new.self (loops_behind heads p.outside h c.nest-nest.ensures) many c.empty-system.ensures c.in_ok-push_conditions.ensures loops

@@ -1,6 +1,6 @@
 use Rattle.std.proofs.Common.{get_or, pos, FitsSigned, w64, to_z-of_z, rules}
 use Rattle.owner_partition.proofs.Sums.{loop_pair}
-use Rattle.owner_partition.proofs.own.coefficient.Goals as goal
+use Rattle.owner_partition.proofs.anchor.coefficient_among.Goals as goal
 
 pub returns-then-loop_number-number-clause-small : goal.returns-then-loop_number-number-clause-small
 returns-then-loop_number-number-clause-small c =

@@ -1,7 +1,7 @@
 use Rattle.std.proofs.Common.{◌∙◌, w64, FitsSigned, rules}
 use Rattle.std.proofs.lemmas.Int.{to_z-of_z}
 use Rattle.nest_tree.proofs.Quotients.{quotient_cast}
-use Rattle.flat_code.proofs.arithmetic.truncated_quotient.Goals as goal
+use Rattle.nest_tree.proofs.arithmetic.truncated_quotient.Goals as goal
 
 pub returns : goal.returns
 returns c =

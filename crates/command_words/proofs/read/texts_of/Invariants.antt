@@ -1,6 +1,6 @@
 use Rattle.std.proofs.Common.{◌≡◌, map, take, string_bytes}
 use Rattle.clap.specs.Walk.{texts}
-use Rattle.plan_tool.proofs.texts_of.Given as goal
+use Rattle.command_words.proofs.read.texts_of.Given as goal
 
 -- the texts of the words so far
 abbrev pub invariant-loop-word : goal.invariant-loop-word

@@ -43,3 +43,11 @@ pub fn truncated_quotient(a: i64, divisor: i64) -> i64
 {
     a.wrapping_div(divisor)
 }
+
+/// A sum and one product more, modulo 2^64.
+#[inline(always)]
+pub fn with_product(sum: i64, coefficient: i64, value: i64) -> i64
+    ensures { result ≡ wrapped (sum +ℤ (coefficient *ℤ value)) }
+{
+    sum.wrapping_add(coefficient.wrapping_mul(value))
+}
