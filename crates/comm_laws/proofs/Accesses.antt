@@ -25,7 +25,7 @@ use Rattle.nest_rows.proofs.GoodNesting.{IsGoodNested, works_good}
 use Rattle.nest_rows.proofs.Nesting.{all-append, all-at}
 use Rattle.owner_partition.specs.declared.cut.Mark.{Mark}
 use Rattle.owner_partition.specs.Marks.{enters_outer}
-use Rattle.owner_partition.specs.Phases.{Execution, executions, phase_instances, phases}
+use Rattle.owner_partition.specs.Phases.{Execution, executions, visit_instances, phases}
 use Rattle.owner_partition.proofs.Instances.{all_executed}
 use Rattle.comm_system.specs.Meetings.{Point, subscripts_at}
 use Rattle.comm_system.specs.Pairs.{Pair, pairs_among}
@@ -191,7 +191,7 @@ module _ (tree : Tree) (marks : List Mark) where
         station = back.0;
         at = back.1;
         place_is = o.place_is ∙ ap (λ (v : Visit). v.place) (sym same);
-        placed = instance_placed (param_values tree) (scope_of tree) back.0.heads back.0.trips back.0.visit known.own_number known.context x.instance o.index (ap (λ v. slice_get (phase_instances (param_values tree) v) o.index) same ∙ o.is);
+        placed = instance_placed (param_values tree) (scope_of tree) back.0.heads back.0.trips back.0.visit known.own_number known.context x.instance o.index (ap (λ v. slice_get (visit_instances (param_values tree) v) o.index) same ∙ o.is);
         inside = passes_at (is_instance_inside tree) (instances tree) j x.instance ranged instance_at;
       }
 

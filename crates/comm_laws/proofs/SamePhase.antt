@@ -20,7 +20,7 @@ use Rattle.farkas_cert.specs.Inequalities.{HasNoWholeSolution}
 use Rattle.owner_partition.specs.declared.anchor.Anchor.{Anchor}
 use Rattle.owner_partition.specs.Marks.{enters_outer}
 use Rattle.owner_partition.specs.Owners.{anchor_owner, dealt}
-use Rattle.owner_partition.specs.Phases.{phase_instances, phases}
+use Rattle.owner_partition.specs.Phases.{visit_instances, phases}
 use Rattle.sync_plan.specs.declared.plan.Plan.{Plan}
 use Rattle.sync_plan.specs.Fit.{IsFit, is_dealt}
 use Rattle.sync_plan.specs.Ordered.{AreChained, IsChain, owner_under}
@@ -242,8 +242,8 @@ obligations_chain tree plan formed ranged fits none j k x y lt at at' seen apart
         let visit_x : s.visit ≡ o.first.visit = some_same s.visit o.first.visit (sym (visit_at tree plan formed fits e s hx.at) ∙ o.first.at) in
         let visit_y : s.visit ≡ o.second.visit = some_same s.visit o.second.visit (sym (visit_at tree plan formed fits e s hx.at) ∙ ap (slice_get (phases tree plan.cut.marks)) same ∙ o.second.at) in
         let known = station_known tree plan.cut.marks formed e s hx.at in
-        let at_i : slice_get (phase_instances params s.visit) o.first.index ≡ Some x.instance = ap (λ v. slice_get (phase_instances params v) o.first.index) visit_x ∙ o.first.is in
-        let at_j : slice_get (phase_instances params s.visit) o.second.index ≡ Some y.instance = ap (λ v. slice_get (phase_instances params v) o.second.index) visit_y ∙ o.second.is in
+        let at_i : slice_get (visit_instances params s.visit) o.first.index ≡ Some x.instance = ap (λ v. slice_get (visit_instances params v) o.first.index) visit_x ∙ o.first.is in
+        let at_j : slice_get (visit_instances params s.visit) o.second.index ≡ Some y.instance = ap (λ v. slice_get (visit_instances params v) o.second.index) visit_y ∙ o.second.is in
         let placed = instances_placed params (scope_of tree) s.heads s.trips s.visit known.own_number known.context x.instance y.instance o.first.index o.second.index (o.within_phase same) at_i at_j in
         let p = placed.0 in
         let q = placed.1.0 in

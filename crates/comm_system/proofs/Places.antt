@@ -13,7 +13,7 @@ use Rattle.nest_model.specs.Visits.{Visit, every, executed_at, instances_at, sto
 use Rattle.nest_walk.proofs.InstanceLists.{one_same}
 use Rattle.nest_rows.specs.Nested.{AreTrips, Nested, nested_among, nested_in}
 use Rattle.nest_rows.proofs.Nesting.{all-append, all-at, all-weaker, IsBefore, kept-number}
-use Rattle.owner_partition.specs.Phases.{Execution, executions_from, phase_instances}
+use Rattle.owner_partition.specs.Phases.{Execution, executions_from, visit_instances}
 use Rattle.conflict_rules.specs.References.{StaticPhase, phases_among, phases_in}
 use Rattle.comm_system.proofs.Contexts.{IsInFront}
 use Rattle.comm_system.proofs.Lists.{all_in_range, all_mapped, mapped_get}
@@ -32,7 +32,7 @@ pub record IsOf (params : List ℤ) (e : ℕ) (vs : List Visit) (x : Execution) 
   pub at : slice_get vs phase ≡ Some visit
   pub phase_is : x.phase ≡ e + phase
   pub place_is : x.place ≡ visit.place
-  pub is : slice_get (phase_instances params visit) index ≡ Some x.instance
+  pub is : slice_get (visit_instances params visit) index ≡ Some x.instance
 
 abbrev in_phase : ℕ → Visit → Instance → Execution
 in_phase e v i = record { phase = e; place = v.place; instance = i }
@@ -40,11 +40,11 @@ in_phase e v i = record { phase = e; place = v.place; instance = i }
 pub execution_of : (params : List ℤ) (e : ℕ) (vs : List Visit) (x : Execution) (n : ℕ) → slice_get (executions_from params e vs) n ≡ Some x → IsOf params e vs x
 execution_of params e [] x n at = let clash : None ≡ Some x = at in absurd (cc)
 execution_of params e (v ∷ vs) x n at =
-    let here = map (in_phase e v) (phase_instances params v) in
+    let here = map (in_phase e v) (visit_instances params v) in
     let later = executions_from params (suc e) vs in
     elim (cases_lt n (length here)) [
       | inl less ↦
-          let m = mapped (in_phase e v) (phase_instances params v) n x (sym (get-front here later n less) ∙ at) in
+          let m = mapped (in_phase e v) (visit_instances params v) n x (sym (get-front here later n less) ∙ at) in
           let p = ap (λ (y : Execution). y.phase) (sym m.2) in
           record { phase = 0; visit = v; index = n; at = refl; phase_is = omega (arith, p); place_is = ap (λ (y : Execution). y.place) (sym m.2); is = m.1 ∙ ap Some (ap (λ (y : Execution). y.instance) m.2) }
       | inr past ↦
@@ -63,10 +63,10 @@ pub record InOrder (params : List ℤ) (e : ℕ) (vs : List Visit) (x y : Execut
 pub in_order : (params : List ℤ) (e : ℕ) (vs : List Visit) (x y : Execution) (j k : ℕ) → j < k → slice_get (executions_from params e vs) j ≡ Some x → slice_get (executions_from params e vs) k ≡ Some y → InOrder params e vs x y
 in_order params e [] x y j k lt at at' = let clash : None ≡ Some x = at in absurd (cc)
 in_order params e (v ∷ vs) x y j k lt at at' =
-    let here = map (in_phase e v) (phase_instances params v) in
+    let here = map (in_phase e v) (visit_instances params v) in
     let later = executions_from params (suc e) vs in
     let one = λ (z : Execution) (n : ℕ) (less : n < length here) (is : slice_get (here ++ later) n ≡ Some z).
-    mapped (in_phase e v) (phase_instances params v) n z (sym (get-front here later n less) ∙ is) in
+    mapped (in_phase e v) (visit_instances params v) n z (sym (get-front here later n less) ∙ is) in
     let first = λ (z : Execution) (n : ℕ) (less : n < length here) (is : slice_get (here ++ later) n ≡ Some z). here_of z n (one z n less is).0 (one z n less is).1 (one z n less is).2 in
     elim (cases_lt j (length here)) [
       | inl less ↦ elim (cases_lt k (length here)) [
@@ -83,7 +83,7 @@ in_order params e (v ∷ vs) x y j k lt at at' =
           record { first = later_of x rest.first; second = later_of y rest.second; phases = omega (arith, rest.phases); within_phase = λ (same : suc rest.first.phase ≡ suc rest.second.phase). rest.within_phase (omega (arith, same)) }
     ]
   where
-    here_of : (z : Execution) (n : ℕ) (i : Instance) → slice_get (phase_instances params v) n ≡ Some i → in_phase e v i ≡ z → IsOf params e (v ∷ vs) z
+    here_of : (z : Execution) (n : ℕ) (i : Instance) → slice_get (visit_instances params v) n ≡ Some i → in_phase e v i ≡ z → IsOf params e (v ∷ vs) z
     here_of z n i is same =
         let p = ap (λ (y : Execution). y.phase) (sym same) in
         record { phase = 0; visit = v; index = n; at = refl; phase_is = omega (arith, p); place_is = ap (λ (y : Execution). y.place) (sym same); is = is ∙ ap Some (ap (λ (y : Execution). y.instance) same) }
@@ -292,17 +292,17 @@ module _ (params : List ℤ) (scope : Scope) (heads : List Head) (ns : List ℕ)
       by (continue line) e known = absurd (let no : [] ≡ i ∷ [] = sym (ap (λ w. executed_at params s.visit.first w s.visit.loops) e) ∙ is in cc)
 
   -- the instances of the stop are those of the walk inside it
-  pub inner_instances : flat_map (instances_at params) (map visit_in (stations_of params every v.what 1 v.first v.loops)) ≡ phase_instances params v
+  pub inner_instances : flat_map (instances_at params) (map visit_in (stations_of params every v.what 1 v.first v.loops)) ≡ visit_instances params v
   inner_instances = ap (flat_map (instances_at params)) (visits-of params every v.what 1 v.first v.loops) ∙ one_same params v.what 1 v.first v.loops
 
-  pub instance_placed : (i : Instance) (k : ℕ) → slice_get (phase_instances params v) k ≡ Some i → IsPlaced params scope heads ns v i
+  pub instance_placed : (i : Instance) (k : ℕ) → slice_get (visit_instances params v) k ≡ Some i → IsPlaced params scope heads ns v i
   instance_placed i k at =
       let stop = instance_stop params (map visit_in (stations_of params every v.what 1 v.first v.loops)) k i (ap (λ xs. slice_get xs k) inner_instances ∙ at) in
       let back = mapped visit_in (stations_of params every v.what 1 v.first v.loops) stop.stop stop.visit stop.at in
       (placed_at_station i stop.stop back.0 back.1 (ap (instances_at params) back.2 ∙ stop.is)).0
 
   -- of two instances the later one is at a later stop of that walk
-  pub instances_placed : (i j : Instance) (k l : ℕ) → k < l → slice_get (phase_instances params v) k ≡ Some i → slice_get (phase_instances params v) l ≡ Some j →
+  pub instances_placed : (i j : Instance) (k l : ℕ) → k < l → slice_get (visit_instances params v) k ≡ Some i → slice_get (visit_instances params v) l ≡ Some j →
       (p : IsPlaced params scope heads ns v i) × ((q : IsPlaced params scope heads ns v j) × Comes p.inner q.inner)
   instances_placed i j k l lt at at' =
       let walk = stations_of params every v.what 1 v.first v.loops in

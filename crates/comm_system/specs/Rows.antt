@@ -3,7 +3,7 @@ use Rattle.std.specs.Prelude.{ℕ, ◌≡◌, ℤ, pos, negsuc, List, [], ◌∷
 use Rattle.farkas_cert.specs.declared.system.Row.{Row}
 use Rattle.nest_tree.specs.declared.tree.Access.{Access}
 use Rattle.nest_tree.specs.declared.tree.Spread.TheVariants.{Block as Blocks}
-use Rattle.nest_tree.specs.Form.{Form}
+use Rattle.nest_tree.specs.Form.{Form, fixed}
 use Rattle.nest_tree.specs.Tree.{Statement, assign, do_loop, done, load, loop_value, next, print, value, work, Expression, Tree, Declaration}
 use Rattle.owner_partition.specs.declared.anchor.Anchor.{Anchor}
 use Rattle.owner_partition.specs.declared.anchor.Dist.TheVariants.{Block}
@@ -15,10 +15,7 @@ use Rattle.sync_plan.specs.declared.plan.Version.TheVariants.{One, Two, Five}
 use Rattle.comm_system.specs.Obligations.{Task, paths_tasks, tasks_of}
 use Rattle.conflict_rules.specs.References.{StaticPhase}
 
--- the form of a number, of a loop's value times a number, and that plus a number
-abbrev fixed : ℤ → Form
-fixed z = record { constant = z; loops = []; params = [] }
-
+-- a loop's value times a number, and a number more
 abbrev times : ℤ → ℕ → ℤ → Form
 times c n z = record { constant = z; loops = (n, c) ∷ []; params = [] }
 

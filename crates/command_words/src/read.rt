@@ -1,10 +1,10 @@
 // Words as a request.
 
-ghost use Rattle.std.specs.Prelude.{◌≡◌, ℕ, Bool, [], Some, None, map, IfOk, IfErr, option_map, option_and_then, string_bytes};
+ghost use Rattle.std.specs.Prelude.{◌≡◌, Some, None, map, IfOk, IfErr, option_map, string_bytes};
 ghost use Rattle.std.specs.Char.{is_ascii_digit};
 ghost use Rattle.std.specs.List.{list_all};
 ghost use Rattle.std.specs.Str.{bytes_eq};
-ghost use Rattle.clap.specs.Words.{first_of, rows_of, found_of, kind_of, subcommand_rows_of, fault_of};
+ghost use Rattle.clap.specs.Words.{first_of, rows_of, found_of, subcommand_rows_of};
 ghost use Rattle.clap.specs.Walk.{texts};
 ghost use Rattle.command_words.specs.Wanted.{wanted, wanted_by, wanted_in, make_of, run_of, verify_of, bench_of, workers_of, plan_of, choice_of, style_of, barrier_of, engine_of, by_of, rest_of, settings_of, sizes_of, sizes_named, size_of, is_numeral as numeral, IsCounted, Takes, within as within_of};
 ghost use Rattle.command_words.specs.Refusals.{IsRefused, IsSweepFault, IsValueFault, refusal_of};

@@ -1,7 +1,7 @@
 // What expressions are as affine forms.
 
-ghost use Rattle.std.specs.Prelude.{◌≡◌, ◌≤◌, ◌+ℤ◌, pos, negsuc, IfOk, IsTrue, [], ◌∷◌};
-ghost use Rattle.nest_tree.specs.Form.{is_small, rises_above};
+ghost use Rattle.std.specs.Prelude.{◌≡◌, ◌≤◌, negsuc, IfOk, IsTrue, [], ◌∷◌};
+ghost use Rattle.nest_tree.specs.Form.{is_small};
 ghost use Rattle.f77_scene.specs.Affine.{fixed, times};
 ghost use Rattle.f77_program.specs.Linear as linear;
 ghost use Rattle.f77_program.specs.Sums.{Ascends};

@@ -3,6 +3,7 @@ use Rattle.std.specs.Prelude.{ℕ, ◌==◌, ℤ, pos, negsuc, ◌+ℤ◌, ◌*�
 use Rattle.std.specs.List.{list_any}
 use Rattle.std.specs.Ordering.{int_eq}
 use Rattle.nest_tree.specs.Form.{Form}
+pub use Rattle.nest_tree.specs.Form.{fixed}
 use Rattle.f77_forms.specs.declared.form.Sign.{Sign}
 use Rattle.f77_forms.specs.declared.form.Sign.TheVariants.{Plus, Minus}
 use Rattle.f77_forms.specs.declared.form.Operator.TheVariants.{Add, Subtract, Multiply, Divide}
@@ -35,10 +36,6 @@ plus a b = record { constant = a.constant +ℤ b.constant; loops = pairs_plus a.
 
 abbrev pub times : ℤ → Form → Form
 times z a = record { constant = z *ℤ a.constant; loops = pairs_times z a.loops; params = pairs_times z a.params }
-
--- a number alone
-abbrev pub fixed : ℤ → Form
-fixed z = record { constant = z; loops = []; params = [] }
 
 -- ---- expressions that are affine
 

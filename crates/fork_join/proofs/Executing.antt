@@ -31,7 +31,7 @@ use Rattle.fork_join.specs.Joins.{all_deeds}
 use Rattle.fork_join.specs.SeenDeeds.{phase_deed}
 use Rattle.fork_join.specs.Workers.{HasExecuted, IsCounterThere, IsWalking, Runs, turns_behind}
 use Rattle.fork_join.specs.declared.cursor.Cursor.{Cursor}
-use Rattle.fork_join.proofs.SeenDeeds.{phase_instances}
+use Rattle.fork_join.proofs.SeenDeeds.{visit_instances}
 use Rattle.fork_join.proofs.Shutting.{plain_left}
 use Rattle.fork_join.proofs.Turning.{tails}
 use Rattle.fork_join.proofs.Walking.{NextHere, cut_off, insides, no_work_behind, seen_exactly, theirs, went_on}
@@ -62,7 +62,7 @@ module _ (tree : Tree) (plan : Plan) (n p done : ℕ) (left : List Instance) (c 
     seen = phase_deed tree plan place p
 
     seen_is : map seen (drop done (all_deeds tree plan p)) ≡ instance_deeds (executor_tree x) i ++ map seen doing
-    seen_is = ap (map seen) one_gone ∙ phase_instances tree plan place p few (i ∷ []) doing there ∙ one_instance (map seen doing)
+    seen_is = ap (map seen) one_gone ∙ visit_instances tree plan place p few (i ∷ []) doing there ∙ one_instance (map seen doing)
 
     pub begins_seen : Begins (executor_tree x) rounds stop (map seen (drop done (all_deeds tree plan p)))
     begins_seen = record { at = h.at; inside = h.inside; rest = map seen doing; is = seen_is }

@@ -245,9 +245,9 @@ module _ (tree : Tree) (plan : Plan) (place p : ℕ) (few : AreFew tree (own_loo
           ∙ ap (λ b. if b then c else first_cell tree (scalar_at (own_loop tree plan place) (c - cell_count tree - 32 * p))) (lt-ltb c (cell_count tree) lt)
       by (Some k) at = ap (λ q. shared_for tree plan place p (at_slot (own_of tree plan place) p c q)) at ∙ back_own k ∙ (slot_there c k at).1
 
-  pub phase_instances : (is : List Instance) (rest : List Deed) → All (λ i. All (λ c. c < cell_count tree) (cells_of tree i)) is →
+  pub visit_instances : (is : List Instance) (rest : List Deed) → All (λ i. All (λ c. c < cell_count tree) (cells_of tree i)) is →
       map (phase_deed tree plan place p) (flat_map (own_deeds tree (own_of tree plan place) p) is ++ rest) ≡ flat_map (instance_deeds tree) is ++ map (phase_deed tree plan place p) rest
-  phase_instances is rest there = shown_instances (own_cell (own_of tree plan place) p) (shared_for tree plan place p) (cell_count tree) back_from tree is rest there
+  visit_instances is rest there = shown_instances (own_cell (own_of tree plan place) p) (shared_for tree plan place p) (cell_count tree) back_from tree is rest there
 
   -- where an access goes
   pub slot_small : (c k : ℕ) → Some k ≡ (own_of tree plan place).slot c → k < 32

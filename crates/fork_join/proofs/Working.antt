@@ -18,7 +18,7 @@ use Rattle.nest_model.specs.Memory.{cell_value}
 use Rattle.nest_model.specs.Ranges.{IsInRange, is_instance_inside}
 use Rattle.nest_model.specs.Visits.{Visit}
 use Rattle.owner_partition.specs.declared.anchor.Anchor.{Anchor}
-use Rattle.owner_partition.specs.Phases.{phase_instances, phases}
+use Rattle.owner_partition.specs.Phases.{visit_instances, phases}
 use Rattle.sync_plan.specs.Waits.{posts_at, waits_for}
 use Rattle.sync_plan.specs.declared.plan.Plan.{Plan}
 use Rattle.spmd_model.specs.Deeds.{owned_by}
@@ -99,9 +99,9 @@ some_cells tree test (i ∷ is) all =
       | inr fails ↦ subst (λ b. All (AreCells tree) (cond b (i ∷ filter test is) (filter test is))) (sym fails) later
     ]
 
-owned_cells : (tree : Tree) (a : Option Anchor) (workers p : ℕ) (v : Visit) → All (AreCells tree) (phase_instances (param_values tree) v) → All (AreCells tree) (owned_by tree a workers p v)
+owned_cells : (tree : Tree) (a : Option Anchor) (workers p : ℕ) (v : Visit) → All (AreCells tree) (visit_instances (param_values tree) v) → All (AreCells tree) (owned_by tree a workers p v)
 owned_cells tree None workers p v all = All-nil (AreCells tree)
-owned_cells tree (Some a) workers p v all = some_cells tree _ (phase_instances (param_values tree) v) all
+owned_cells tree (Some a) workers p v all = some_cells tree _ (visit_instances (param_values tree) v) all
 
 front_cells : (tree : Tree) (xs ys : List Instance) → All (AreCells tree) (xs ++ ys) → All (AreCells tree) xs × All (AreCells tree) ys
 front_cells tree [] ys all = (All-nil (AreCells tree), all)
@@ -121,14 +121,14 @@ works_there : (tree : Tree) (is : List Instance) (rest : List CounterTurn) → A
 works_there tree [] rest cells all = all
 works_there tree (i ∷ is) rest cells all = All-cons (IsCounterThere tree) (works i) (map works is ++ rest) (All-head (AreCells tree) i is cells) (works_there tree is rest (All-tail (AreCells tree) i is cells) all)
 
-turns_there : (tree : Tree) (plan : Plan) (p e : ℕ) (vs : List Visit) → All (AreCells tree) (flat_map (phase_instances (param_values tree)) vs) → All (IsCounterThere tree) (counter_turns tree plan p e vs)
+turns_there : (tree : Tree) (plan : Plan) (p e : ℕ) (vs : List Visit) → All (AreCells tree) (flat_map (visit_instances (param_values tree)) vs) → All (IsCounterThere tree) (counter_turns tree plan p e vs)
 turns_there tree plan p e [] all = All-nil (IsCounterThere tree)
 turns_there tree plan p e (v ∷ vs) all =
     let does = posts_at tree plan p v.place v.loops in
     let qs = waits_for tree plan p v.place v.loops in
     let own = owned_by tree (slice_get plan.anchors (v.place - 1)) plan.workers p v in
     let later = counter_turns tree plan p (suc e) vs in
-    let parts = front_cells tree (phase_instances (param_values tree) v) (flat_map (phase_instances (param_values tree)) vs) all in
+    let parts = front_cells tree (visit_instances (param_values tree) v) (flat_map (visit_instances (param_values tree)) vs) all in
     subst (All (IsCounterThere tree)) (sym (append_assoc (boundary_turns (e - 1) does qs) (begins e ∷ map works own) later))
     (boundary_there tree (e - 1) does qs (begins e ∷ (map works own ++ later))
     (All-cons (IsCounterThere tree) (begins e) (map works own ++ later) tt (works_there tree own later (owned_cells tree (slice_get plan.anchors (v.place - 1)) plan.workers p v parts.0) (turns_there tree plan p (suc e) vs parts.1))))

@@ -2,7 +2,7 @@
 use Rattle.std.specs.Prelude.{ℕ, ◌+◌, ◌-◌, ℤ, pos, negsuc, ◌+ℤ◌, ◌-ℤ◌, ◌*ℤ◌, int_div, Bool, true, if◌then◌else◌, Some, List, [], ◌∷◌, ◌++◌, map, slice_set, replicate, ◌≡◌, refl}
 use Rattle.std.specs.List.{flat_map, range_with_len}
 use Rattle.nest_tree.specs.declared.tree.Compare.TheVariants.{Eq}
-use Rattle.nest_tree.specs.Form.{Form, form_value}
+use Rattle.nest_tree.specs.Form.{Form, fixed, form_value}
 pub use Rattle.nest_tree.specs.Guards.{compares, holds}
 use Rattle.nest_tree.specs.Layout.{count_of}
 use Rattle.nest_tree.specs.Tree.{param_values}
@@ -69,9 +69,6 @@ abbrev pub instances : Tree → List Instance
 instances tree = instances_in (param_values tree) tree.items 1 (no_values tree)
 
 -- DO 20 I = 3, 1, -2 round DO 10 J = I, 1 with a PRINT, and behind that IF (I.EQ.1) K = 5: at I = 3 the inner loop makes no trip, and the assignment is left out
-abbrev fixed : ℤ → Form
-fixed z = record { constant = z; loops = []; params = [] }
-
 abbrev outer_value : Form
 outer_value = record { constant = pos 0; loops = (1, pos 1) ∷ []; params = [] }
 

@@ -1,6 +1,6 @@
 -- The intervals of the loops round each stop of a walk, stop by stop in text order.
 use Rattle.std.specs.Prelude.{ℕ, ◌-◌, ℤ, pos, negsuc, Bool, true, List, [], ◌∷◌, ◌++◌, slice_index_or, if◌then◌else◌, ◌≡◌, refl}
-use Rattle.nest_tree.specs.Form.{Form}
+use Rattle.nest_tree.specs.Form.{fixed}
 use Rattle.nest_tree.specs.Intervals.{head_interval, with_ends}
 use Rattle.nest_tree.specs.Layout.{are_inside}
 use Rattle.nest_tree.specs.Limits.{no_ends}
@@ -27,9 +27,6 @@ abbrev pub is_in_its_ends : List (List (ℤ × ℤ)) → Visit → Bool
 is_in_its_ends all v = are_inside (slice_index_or all (v.place - 1) []) v.loops
 
 -- a PRINT in DO 10 J = I, -6, -1 in DO 10 I = 1, 4: I lies from 1 to 4, and J from -6 to 4
-abbrev fixed : ℤ → Form
-fixed z = record { constant = z; loops = []; params = [] }
-
 abbrev printed : Statements
 printed = next (work (print (record { items = []; line = 3 }))) done
 

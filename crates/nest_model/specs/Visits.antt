@@ -2,7 +2,7 @@
 use Rattle.std.specs.Prelude.{ℕ, ◌+◌, ℤ, Bool, true, List, [], ◌∷◌, ◌++◌, if◌then◌else◌}
 use Rattle.std.specs.List.{flat_map}
 use Rattle.nest_tree.specs.Tree.{Statement, Statements, do_loop, work, continue, done, next, Tree, param_values}
-use Rattle.nest_model.specs.Instances.{Instance, head_trips, with_loop, works_in, is_executed, no_values}
+use Rattle.nest_model.specs.Instances.{Instance, head_trips, instances_of, with_loop, works_in, is_executed, no_values}
 
 -- the number of the stop in text order and that of its first piece of work, from 1, the statement, and the loops' values by number
 pub record Visit : Type 0 where
@@ -10,6 +10,10 @@ pub record Visit : Type 0 where
   pub first : ℕ
   pub what : Statement
   pub loops : List ℤ
+
+-- the instances of the statement at a stop, in sequential order
+abbrev pub visit_instances : List ℤ → Visit → List Instance
+visit_instances params v = instances_of params v.what v.first v.loops
 
 -- how many stops there are in the text
 abbrev mutual

@@ -1,11 +1,11 @@
 // What holds of an instance, as rows.
 
-ghost use Rattle.std.specs.Prelude.{◌≡◌, ◌+◌, ◌*◌, ◌-ℤ◌, neg_ℤ, ◌<◌, ◌-◌, ◌^◌, ◌++◌, [], ◌∷◌, IfOk, IsTrue, OnOk, length, map};
+ghost use Rattle.std.specs.Prelude.{◌≡◌, ◌+◌, ◌*◌, ◌-ℤ◌, neg_ℤ, ◌<◌, ◌-◌, ◌^◌, [], ◌∷◌, IfOk, IsTrue, OnOk, length};
 ghost use Rattle.std.specs.List.{list_all};
 ghost use Rattle.nest_tree.specs.Form.{is_small};
 ghost use Rattle.nest_tree.specs.Tree.{Head};
 ghost use Rattle.nest_tree.specs.View.{head_of};
-ghost use Rattle.nest_rows.specs.Constraints.{is_tame, row_of};
+ghost use Rattle.nest_rows.specs.Constraints.{is_tame};
 ghost use Rattle.nest_rows.specs.Groups.{at_most as at_most_of, counted as counted_of, differ as differ_of, equal as equal_of, compare_so, loop_has, loops_have, not_past as not_past_of, on_trip as on_trip_of};
 ghost use Rattle.nest_rows.specs.More.{HasMore};
 ghost use Rattle.nest_rows.specs.declared.constraint.Sign.TheVariants.{Plus, Minus};

@@ -8,6 +8,10 @@ pub record Form : Type 0 where
   pub loops : List (ℕ × ℤ)
   pub params : List (ℕ × ℤ)
 
+-- a number alone
+abbrev pub fixed : ℤ → Form
+fixed z = record { constant = z; loops = []; params = [] }
+
 -- a number as a form may have it: within plus or minus 2147483647
 abbrev pub is_small : ℤ → Bool
 is_small z = nat_le (unsigned_abs z) 2147483647

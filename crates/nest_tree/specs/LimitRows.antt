@@ -3,14 +3,11 @@ use Rattle.std.specs.Prelude.{ℕ, ℤ, pos, negsuc, ◌≡◌, Option, Some, No
 use Rattle.nest_tree.specs.declared.limits.Limit.{Limit}
 use Rattle.nest_tree.specs.declared.limits.Limit.TheVariants.{TooWide, TooMuchWork, TooManyCells}
 use Rattle.nest_tree.specs.declared.tree.Spread.TheVariants.{Block}
-use Rattle.nest_tree.specs.Form.{Form}
+use Rattle.nest_tree.specs.Form.{Form, fixed}
 use Rattle.nest_tree.specs.Limits.{first_limit, no_ends}
 use Rattle.nest_tree.specs.Tree.{Statement, Statements, Tree, assign, continue, do_loop, done, next, number, work}
 
--- a constant, and a multiple of the loop with this number and a constant
-abbrev fixed : ℤ → Form
-fixed z = record { constant = z; loops = []; params = [] }
-
+-- a multiple of the loop with this number, and a constant
 abbrev times : ℤ → ℕ → ℤ → Form
 times c n z = record { constant = z; loops = (n, c) ∷ []; params = [] }
 

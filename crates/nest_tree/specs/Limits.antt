@@ -4,7 +4,7 @@ use Rattle.std.specs.Option.{option_or}
 use Rattle.nest_tree.specs.declared.tree.Access.{Access}
 use Rattle.nest_tree.specs.declared.limits.Limit.{Limit}
 use Rattle.nest_tree.specs.declared.limits.Limit.TheVariants.{TooWide, TooMuchWork, TooManyCells}
-use Rattle.nest_tree.specs.Form.{Form, is_small}
+use Rattle.nest_tree.specs.Form.{Form, fixed, is_small}
 use Rattle.nest_tree.specs.Intervals.{form_interval, head_interval, with_ends}
 use Rattle.nest_tree.specs.Layout.{cell_count, extent}
 use Rattle.nest_tree.specs.Loads.{subscript_forms, work_forms}
@@ -100,9 +100,6 @@ abbrev pub IsWithinLimits : Tree → Type 0
 IsWithinLimits tree = first_limit tree ≡ None
 
 -- DO 10 I = 1, 2000000 round DO 10 J = 1, 2000000 with an assignment has 4,000,002,000,001 of work
-abbrev fixed : ℤ → Form
-fixed z = record { constant = z; loops = []; params = [] }
-
 abbrev round : ℕ → Statements → Statement
 round n body = do_loop (record { number = n; m1 = fixed (pos 1); m2 = fixed (pos 2000000); step = pos 1; line = n }) body
 

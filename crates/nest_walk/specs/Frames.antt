@@ -1,17 +1,13 @@
 -- The loops that a cursor is in, as plain data.
 use Rattle.std.specs.Prelude.{ℕ, zero, suc, List, [], ◌++◌, map, slice_get}
 use Rattle.std.specs.Option.{option_to_list}
-use Rattle.nest_tree.specs.Tree.{Head, done}
+use Rattle.nest_tree.specs.Tree.{done}
 use Rattle.nest_tree.specs.View.{statements_from}
-use Rattle.nest_tree.specs.declared.tree.Nest.{Nest}
+pub use Rattle.nest_tree.specs.View.{head_of}
 use Rattle.nest_walk.specs.Walks.{Stretch, Level}
 use Rattle.nest_walk.specs.TripsLeft.{trips_left}
 use Rattle.nest_walk.specs.declared.frame.Part.{Part}
 use Rattle.nest_walk.specs.declared.frame.Frame.{Frame}
-
--- the head of a loop
-abbrev pub head_of : Nest → Head
-head_of nest = record { number = nest.number; m1 = nest.m1; m2 = nest.m2; step = nest.step; line = nest.line }
 
 abbrev pub stretch_of : Part → Stretch
 stretch_of p = record { statements = statements_from p.items.now; place = p.place; first = p.first }

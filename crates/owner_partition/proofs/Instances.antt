@@ -7,7 +7,7 @@ use Rattle.nest_model.specs.Visits.{Visit}
 use Rattle.nest_model.proofs.Visited.{all_visited}
 use Rattle.owner_partition.specs.declared.cut.Mark.{Mark}
 use Rattle.owner_partition.specs.Marks.{enters_outer}
-use Rattle.owner_partition.specs.Phases.{Execution, executions, executions_from, phase_instances, phases}
+use Rattle.owner_partition.specs.Phases.{Execution, executions, executions_from, visit_instances, phases}
 
 abbrev instance_in : Execution → Instance
 instance_in x = x.instance
@@ -17,9 +17,9 @@ stripped : (e place : ℕ) (is : List Instance) (rest : List Execution) → map 
 stripped e place [] rest = refl
 stripped e place (i ∷ is) rest = ap (λ xs. i ∷ xs) (stripped e place is rest)
 
-executed : (params : List ℤ) (e : ℕ) (vs : List Visit) → map instance_in (executions_from params e vs) ≡ flat_map (phase_instances params) vs
+executed : (params : List ℤ) (e : ℕ) (vs : List Visit) → map instance_in (executions_from params e vs) ≡ flat_map (visit_instances params) vs
 executed params e [] = refl
-executed params e (v ∷ vs) = stripped e v.place (phase_instances params v) (executions_from params (suc e) vs) ∙ ap (λ xs. phase_instances params v ++ xs) (executed params (suc e) vs)
+executed params e (v ∷ vs) = stripped e v.place (visit_instances params v) (executions_from params (suc e) vs) ∙ ap (λ xs. visit_instances params v ++ xs) (executed params (suc e) vs)
 
 pub all_executed : (tree : Tree) (marks : List Mark) → map instance_in (executions tree marks) ≡ instances tree
 all_executed tree marks =

@@ -1,7 +1,7 @@
 -- What own iterations ask of an anchor, and the values of a loop's own trips.
 use Rattle.std.specs.Prelude.{ℕ, ◌==◌, ℤ, pos, negsuc, Bool, true, List, [], ◌∷◌, if◌then◌else◌, ◌≡◌, refl}
 use Rattle.std.specs.List.{filter}
-use Rattle.nest_tree.specs.Form.{Form, reach_within}
+use Rattle.nest_tree.specs.Form.{Form, fixed, reach_within}
 use Rattle.nest_tree.specs.Tree.{Head, Statement, do_loop, work, continue}
 use Rattle.nest_model.specs.Instances.{head_trips, with_loop}
 use Rattle.owner_partition.specs.declared.anchor.Anchor.{Anchor}
@@ -32,9 +32,6 @@ pub coefficient_of-example : coefficient_of ((1, pos 2) ∷ (3, pos 5) ∷ []) 3
 coefficient_of-example = refl
 
 -- DO 10 I = 2, 9 and the place I - 2 among three workers: in blocks of 3 processor 2 has I = 8 and 9, in turn it has 4 and 7; DO 10 I = 5, 1 has no trip
-abbrev fixed : ℤ → Form
-fixed z = record { constant = z; loops = []; params = [] }
-
 abbrev behind_two : Dist → Anchor
 behind_two dist = record { form = record { constant = negsuc 1; loops = (1, pos 1) ∷ []; params = [] }; dist = dist }
 

@@ -12,7 +12,7 @@ use Rattle.nest_model.specs.Visits.{Visit}
 use Rattle.owner_partition.specs.declared.anchor.Dist.{Dist}
 use Rattle.owner_partition.specs.declared.anchor.Dist.TheVariants.{Block, Cyclic}
 use Rattle.owner_partition.specs.declared.anchor.Anchor.{Anchor}
-use Rattle.owner_partition.specs.Phases.{Execution, phase_instances}
+use Rattle.owner_partition.specs.Phases.{Execution, visit_instances}
 
 -- who owns what stands at this value: floor(w / b), or w modulo the workers
 abbrev pub dealt : Dist → ℕ → ℤ → ℤ
@@ -52,7 +52,7 @@ owner_of tree anchors workers x = owner_by (slice_get anchors (x.place - 1)) wor
 
 -- the instances of a phase that a processor owns, in sequential order
 abbrev pub own_instances : List ℤ → Anchor → ℕ → ℕ → Visit → List Instance
-own_instances params a workers p v = filter (λ (i : Instance). anchor_owner a workers i.loops params == p) (phase_instances params v)
+own_instances params a workers p v = filter (λ (i : Instance). anchor_owner a workers i.loops params == p) (visit_instances params v)
 
 -- an interval lies within the blocks of so many workers: within 0 to b * P - 1; the places in turn have no end
 abbrev pub reaches : Dist → ℕ → ℤ × ℤ → Bool

@@ -2,8 +2,9 @@
 use Rattle.std.specs.Prelude.{ℕ, suc, ℤ, pos, List, [], ◌∷◌, ◌++◌, Option, map, slice_get, ◌≡◌, refl}
 use Rattle.std.specs.Option.{option_map}
 use Rattle.nest_tree.specs.Tree.{Statement, print, work, do_loop, done, next, Tree, param_values}
-use Rattle.nest_model.specs.Instances.{Instance, instances_of}
+use Rattle.nest_model.specs.Instances.{Instance}
 use Rattle.nest_model.specs.Visits.{Visit, visits}
+pub use Rattle.nest_model.specs.Visits.{visit_instances}
 use Rattle.owner_partition.specs.declared.cut.Mark.{Mark}
 use Rattle.owner_partition.specs.declared.cut.Mark.TheVariants.{Outer, Single}
 use Rattle.owner_partition.specs.Marks.{enters_outer}
@@ -11,10 +12,6 @@ use Rattle.owner_partition.specs.Marks.{enters_outer}
 -- the phases in order of execution: the phase with number e, from 1, has the place e - 1 in the list, and `place` is the number of its static phase
 abbrev pub phases : Tree → List Mark → List Visit
 phases tree marks = visits tree (enters_outer marks)
-
--- the instances of a phase, in sequential order
-abbrev pub phase_instances : List ℤ → Visit → List Instance
-phase_instances params v = instances_of params v.what v.first v.loops
 
 -- an instance in its phase: the number of the phase, and of its static phase, both from 1
 pub record Execution : Type 0 where
@@ -25,7 +22,7 @@ pub record Execution : Type 0 where
 -- what is executed in phases of which the first has this number
 abbrev pub executions_from : List ℤ → ℕ → List Visit → List Execution
 executions_from params e [] = []
-executions_from params e (v ∷ rest) = map (λ i. record { phase = e; place = v.place; instance = i }) (phase_instances params v) ++ executions_from params (suc e) rest
+executions_from params e (v ∷ rest) = map (λ i. record { phase = e; place = v.place; instance = i }) (visit_instances params v) ++ executions_from params (suc e) rest
 
 -- all instances of a program, each in its phase, in sequential order
 abbrev pub executions : Tree → List Mark → List Execution

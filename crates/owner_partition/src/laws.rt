@@ -10,7 +10,7 @@ ghost use Rattle.nest_model.specs.Visits.{Visit};
 ghost use Rattle.nest_walk.specs.Texts.{Placed, placed};
 ghost use Rattle.owner_partition.specs.declared.cut.Mark.{Mark};
 ghost use Rattle.owner_partition.specs.OwnInstances.{names_no_inner};
-ghost use Rattle.owner_partition.specs.Phases.{Execution, executions, phase_instances};
+ghost use Rattle.owner_partition.specs.Phases.{Execution, executions, visit_instances};
 ghost use Rattle.owner_partition.specs.Owners.{own_instances, owner_of};
 ghost use Rattle.owner_partition.specs.declared.anchor.Anchor.{Anchor};
 
@@ -42,7 +42,7 @@ pub fn owned_executions()
         → slice_get anchors (v.place - 1) ≡ Some a
         → filter (λ (x : Execution). owner_of tree anchors workers x == p)
         (map (λ i. record { phase = e; place = v.place; instance = i })
-        (phase_instances (param_values tree) v))
+        (visit_instances (param_values tree) v))
         ≡ map (λ i. record { phase = e; place = v.place; instance = i })
         (own_instances (param_values tree) a workers p v) }
 {}

@@ -30,7 +30,7 @@ use Rattle.maker_marks.specs.Cut.{cut_of}
 use Rattle.plan_maker.specs.Loops.{AreLoopVerdicts, IsLoopVerdict, LoopVerdict, own_in, tried_in}
 use Rattle.maker_marks.specs.Privates.{own_at}
 use Rattle.plan_maker.specs.Made.{IsBarrierPlan, IsMade, with_found}
-use Rattle.plan_maker.specs.Numbers.{IsShown}
+use Rattle.plan_maker.specs.Numbers.{IsHeld}
 use Rattle.plan_maker.specs.PhaseCauses.{IsPhaseCause}
 use Rattle.plan_maker.specs.Trials.{asked_of_slot, slots_asked}
 use Rattle.maker_marks.specs.Tries.{tried_at}
@@ -119,7 +119,7 @@ module _ (tree : Tree) (base : Plan) (kinds : List Kind) (certificates : List Ce
 
 -- the whole
 pub made_is : (tree : Tree) (workers : ℕ) (cut : Cutting) (base : Plan) (w : Weakest) (plan : Plan) (reasons : Reasons) → IsWellFormed tree → base ≡ barrier_plan cut (maker_anchors tree cut.marks workers) workers [] → plan ≡ with_found base w.kinds.items w.certificates.items →
-    IsFit tree base → IsWeakest tree base w → IsShown plan → IsReasonedCut tree cut → AllZip (IsLoopReason tree) (all_attempts tree (open_loops 1 cut.marks)) reasons.loops.items → reasons.phases.items ≡ w.reasons.items → IsMade tree workers plan reasons
+    IsFit tree base → IsWeakest tree base w → IsHeld plan → IsReasonedCut tree cut → AllZip (IsLoopReason tree) (all_attempts tree (open_loops 1 cut.marks)) reasons.loops.items → reasons.phases.items ≡ w.reasons.items → IsMade tree workers plan reasons
 made_is tree workers cut base w plan reasons formed base-is plan-is fit weak numbers reasoned loops phases =
     let anchors = maker_anchors tree cut.marks workers in
     let kinds = w.kinds.items in
@@ -133,7 +133,7 @@ made_is tree workers cut base w plan reasons formed base-is plan-is fit weak num
       conditions = refl;
       workers_are = refl;
       accepted = record { fits = subst (λ ks. IsFit tree (with_found start ks certificates)) (sym here.kinds) fits; certified = certified tree start kinds certificates here.certified };
-      numbers = subst IsShown whole numbers;
+      numbers = subst IsHeld whole numbers;
       cut = reasoned;
       loops = loops;
       anchors = refl;
@@ -167,7 +167,7 @@ reasoned tree vs cut long all is = record {
 
 -- the same with a barrier in front of each phase
 pub barriers_are : (tree : Tree) (workers : ℕ) (cut : Cutting) (base plan : Plan) (certificates : List Certificate) → base ≡ barrier_plan cut (maker_anchors tree cut.marks workers) workers [] → plan ≡ barrier_plan base.cut base.anchors workers certificates →
-    IsFit tree base → AreRefuted (all_trips_asked tree base ++ all_paths_asked tree base) certificates → IsShown plan → IsReasonedCut tree cut → IsBarrierPlan tree workers plan
+    IsFit tree base → AreRefuted (all_trips_asked tree base ++ all_paths_asked tree base) certificates → IsHeld plan → IsReasonedCut tree cut → IsBarrierPlan tree workers plan
 barriers_are tree workers cut base plan certificates base-is plan-is fit refuted numbers reasoned =
     let anchors = maker_anchors tree cut.marks workers in
     let start = barrier_plan cut anchors workers [] in
@@ -182,7 +182,7 @@ barriers_are tree workers cut base plan certificates base-is plan-is fit refuted
       conditions = refl;
       workers_are = refl;
       accepted = barriers_accepted tree cut anchors workers certificates (subst (IsFit tree) base-is fit) good;
-      numbers = subst IsShown whole numbers;
+      numbers = subst IsHeld whole numbers;
       cut = reasoned;
       anchors = refl;
       kinds = refl;

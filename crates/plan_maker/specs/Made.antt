@@ -13,7 +13,7 @@ use Rattle.plan_maker.specs.declared.reasons.Reasons.{Reasons}
 use Rattle.maker_anchors.specs.Anchors.{maker_anchors}
 use Rattle.plan_maker.specs.Candidates.{ArePlaces, kinds_taken, weaker_from}
 use Rattle.plan_maker.specs.Bars.{IsLoopReason, IsReasonedCut, all_attempts, open_loops}
-use Rattle.plan_maker.specs.Numbers.{IsShown}
+use Rattle.plan_maker.specs.Numbers.{IsHeld}
 use Rattle.plan_maker.specs.Weakest.{IsPhaseReason, candidates_in}
 
 -- a made plan, for so many workers, with its reasons: one for each try of each loop that is Outer or Single, and one for each phase and weaker candidate, in order; its version is the least from two on that holds its cut
@@ -22,7 +22,7 @@ pub record IsMade (tree : Tree) (workers : ℕ) (plan : Plan) (reasons : Reasons
   pub conditions : plan.conditions ≡ Values
   pub workers_are : plan.workers ≡ workers
   pub accepted : IsAccepted tree plan
-  pub numbers : IsShown plan
+  pub numbers : IsHeld plan
   pub cut : IsReasonedCut tree plan.cut
   pub loops : AllZip (IsLoopReason tree) (all_attempts tree (open_loops 1 plan.cut.marks)) reasons.loops.items
   pub anchors : plan.anchors ≡ maker_anchors tree plan.cut.marks workers
@@ -37,7 +37,7 @@ pub record IsBarrierPlan (tree : Tree) (workers : ℕ) (plan : Plan) : Type 0 wh
   pub conditions : plan.conditions ≡ Values
   pub workers_are : plan.workers ≡ workers
   pub accepted : IsAccepted tree plan
-  pub numbers : IsShown plan
+  pub numbers : IsHeld plan
   pub cut : IsReasonedCut tree plan.cut
   pub anchors : plan.anchors ≡ maker_anchors tree plan.cut.marks workers
   pub kinds : plan.kinds ≡ replicate (length plan.anchors) Barrier

@@ -1,8 +1,9 @@
 // The numbers of plans.
 
-ghost use Rattle.std.specs.Prelude.{IsTrue, length};
+ghost use Rattle.std.specs.Prelude.{◌&&◌, IsTrue, length, ℕ, ℤ};
 ghost use Rattle.std.specs.List.{list_all};
-ghost use Rattle.plan_maker.specs.Numbers.{IsShown, are_privates_shown, is_32, is_64, is_anchor_shown, is_certificate_shown, is_dist_shown, is_kind_shown, is_pair_shown, is_step_shown, is_term_shown};
+ghost use Rattle.sync_plan.specs.Numbers.{is_32, is_64, is_128, is_certificate_shown, is_dist_shown, is_step_shown};
+ghost use Rattle.plan_maker.specs.Numbers.{IsHeld, are_privates_held, is_anchor_held, is_kind_held, is_pair_held};
 
 use farkas_cert::{Certificate, Step};
 use owner_partition::{Anchor, Dist, Privates};
@@ -10,7 +11,7 @@ use sync_plan::{Kind, Plan};
 
 // Reads pairs of a form: the numbers of what it names are within the bounds of their type.
 fn read_pairs(pairs: &[(u32, i64)])
-    ensures { IsTrue (list_all is_pair_shown pairs.now) }
+    ensures { IsTrue (list_all is_pair_held pairs.now) }
 {
     for pair in pairs {
         let (_number, _coefficient) = *pair;
@@ -29,7 +30,7 @@ fn read_dist(dist: Dist)
 
 // Reads an anchor.
 fn read_anchor(anchor: &Anchor)
-    ensures { IsTrue (is_anchor_shown anchor.now) }
+    ensures { IsTrue (is_anchor_held anchor.now) }
 {
     read_pairs(anchor.form.loops());
     read_pairs(anchor.form.params());
@@ -38,7 +39,7 @@ fn read_anchor(anchor: &Anchor)
 
 // Reads anchors.
 fn read_anchors(anchors: &[Anchor])
-    ensures { IsTrue (list_all is_anchor_shown anchors.now) }
+    ensures { IsTrue (list_all is_anchor_held anchors.now) }
 {
     for anchor in anchors {
         read_anchor(anchor);
@@ -47,7 +48,7 @@ fn read_anchors(anchors: &[Anchor])
 
 // Reads a kind.
 fn read_kind(kind: &Kind)
-    ensures { IsTrue (is_kind_shown kind.now) }
+    ensures { IsTrue (is_kind_held kind.now) }
 {
     if let Some(anchor) = kind.anchor() {
         read_anchor(anchor);
@@ -56,7 +57,7 @@ fn read_kind(kind: &Kind)
 
 // Reads kinds.
 fn read_kinds(kinds: &[Kind])
-    ensures { IsTrue (list_all is_kind_shown kinds.now) }
+    ensures { IsTrue (list_all is_kind_held kinds.now) }
 {
     for kind in kinds {
         read_kind(kind);
@@ -74,7 +75,7 @@ fn read_scalars(scalars: &[u32])
 
 // Reads the private scalars of loops.
 fn read_privates(lists: &[Privates])
-    ensures { IsTrue (list_all are_privates_shown lists.now) }
+    ensures { IsTrue (list_all are_privates_held lists.now) }
 {
     for list in lists {
         read_scalars(list.as_slice());
@@ -83,7 +84,7 @@ fn read_privates(lists: &[Privates])
 
 // Reads the terms of a step: their numbers are within the bounds of their types.
 fn read_terms(terms: &[(u64, i128)])
-    ensures { IsTrue (list_all is_term_shown terms.now) }
+    ensures { IsTrue (list_all (λ (t : ℕ × ℤ). is_64 t.0 && is_128 t.1) terms.now) }
 {
     for term in terms {
         let (_row, _multiplier) = *term;
@@ -113,7 +114,7 @@ fn read_certificates(certificates: &[Certificate])
 
 /// Reads a plan: that each number is within the bounds of its type is known of what is read.
 pub(crate) fn read_plan(plan: &Plan)
-    ensures { IsShown plan.now }
+    ensures { IsHeld plan.now }
 {
     read_anchors(plan.anchors.as_slice());
     read_kinds(plan.kinds.as_slice());

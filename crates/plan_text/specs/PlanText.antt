@@ -1,13 +1,10 @@
 -- The text of a plan, and the plans that have one.
-use Rattle.std.specs.Prelude.{ℕ, suc, ◌^◌, ◌≡◌, ℤ, pos, negsuc, Bool, true, false, not, ◌&&◌, ◌||◌, ◌==◌, nat_lt, List, [], ◌∷◌, ◌++◌, length, codes}
+use Rattle.std.specs.Prelude.{ℕ, suc, ◌≡◌, Bool, true, false, not, ◌&&◌, ◌||◌, ◌==◌, nat_lt, List, [], ◌∷◌, ◌++◌, length, codes}
 use Rattle.std.specs.List.{flat_map, list_all}
 use Rattle.std.specs.Option.{option_map_or}
 use Rattle.farkas_cert.specs.declared.certificate.Certificate.{Certificate}
-use Rattle.farkas_cert.specs.declared.certificate.Step.{Step}
 use Rattle.nest_tree.specs.Form.{Form, is_form, is_small, rises_above}
 use Rattle.owner_partition.specs.declared.anchor.Anchor.{Anchor}
-use Rattle.owner_partition.specs.declared.anchor.Dist.{Dist}
-use Rattle.owner_partition.specs.declared.anchor.Dist.TheVariants.{Block, Cyclic}
 use Rattle.owner_partition.specs.Cuts.{Cutting}
 use Rattle.owner_partition.specs.Marks.{is_doall, is_sum_mark}
 use Rattle.owner_partition.specs.declared.cut.Mark.{Mark}
@@ -20,6 +17,7 @@ use Rattle.sync_plan.specs.declared.plan.Plan.{Plan}
 use Rattle.sync_plan.specs.declared.plan.Version.{Version}
 use Rattle.sync_plan.specs.declared.plan.Version.TheVariants.{One, Two, Three, Four, Five}
 use Rattle.sync_plan.specs.Kinds.{anchor_in}
+pub use Rattle.sync_plan.specs.Numbers.{is_32, is_64, is_128, is_certificate_shown, is_dist_shown, is_step_shown}
 use Rattle.plan_text.specs.Words.{version_line, count_line, loop_line, phase_line, row_line, cert_line, step_line}
 
 -- items with their lines, numbered from this number on
@@ -84,19 +82,9 @@ text_of lines = flat_map (λ l. l ++ 10 ∷ []) lines
 abbrev pub plan_text : Plan → List ℕ
 plan_text plan = text_of (plan_lines plan)
 
--- numbers of 32 and of 64 bits, and signed ones of 128 bits
-abbrev pub is_32 : ℕ → Bool
-is_32 n = nat_lt n (2 ^ 32)
-
-abbrev pub is_64 : ℕ → Bool
-is_64 n = nat_lt n (2 ^ 64)
-
+-- a form in its one way of writing, whose numbers their types hold; an anchor, and that of a kind, if it has one
 abbrev pub is_form_shown : Form → Bool
 is_form_shown f = is_form f && list_all (λ p. is_32 p.0) f.loops && list_all (λ p. is_32 p.0) f.params
-
-abbrev pub is_dist_shown : Dist → Bool
-is_dist_shown (Block b) = is_32 b
-is_dist_shown Cyclic = true
 
 abbrev pub is_anchor_shown : Anchor → Bool
 is_anchor_shown a = is_form_shown a.form && is_dist_shown a.dist
@@ -123,16 +111,6 @@ are_conditions_shown Two (Rows rows) = false
 are_conditions_shown Three c = are_where_shown c
 are_conditions_shown Four c = are_where_shown c
 are_conditions_shown Five c = are_where_shown c
-
-abbrev pub is_128 : ℤ → Bool
-is_128 (pos n) = nat_lt n (2 ^ 127)
-is_128 (negsuc n) = nat_lt n (2 ^ 127)
-
-abbrev pub is_step_shown : Step → Bool
-is_step_shown s = is_128 s.divisor && list_all (λ t. is_64 t.0 && is_128 t.1) s.terms
-
-abbrev pub is_certificate_shown : Certificate → Bool
-is_certificate_shown c = is_64 (length c.steps) && list_all is_step_shown c.steps
 
 abbrev pub are_phases_shown : List (Kind × Anchor) → Bool
 are_phases_shown phases = is_32 (length phases) && list_all is_phase_shown phases

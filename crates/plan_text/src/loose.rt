@@ -1,7 +1,7 @@
 // What a line would say if it were a line of a plan's text. It is one where it is the line of what
 // it says: who reads it compares the two, so nothing else of its form is looked at here.
 
-ghost use Rattle.std.specs.Prelude.{◌≡◌, ◌==◌, ◌+◌, ◌-◌, ◌%◌, [], map, drop, IfOk, position, true, ◌<◌};
+ghost use Rattle.std.specs.Prelude.{◌≡◌, ◌==◌, ◌+◌, ◌-◌, ◌%◌, [], map, drop, IfOk, position, ◌<◌};
 ghost use Rattle.std.specs.List.{after_first, before_first};
 ghost use Rattle.std.specs.Str.{bytes_eq};
 ghost use Rattle.plan_text.specs.Loose as spec;

@@ -5,7 +5,7 @@ use Rattle.nest_tree.specs.Tree.{Tree, param_values}
 use Rattle.nest_model.specs.Instances.{instances, no_values}
 use Rattle.nest_model.specs.Visits.{visits}
 use Rattle.nest_model.proofs.Visited.{all_visited}
-use Rattle.range_check.specs.Stops.{stop_instances}
+use Rattle.range_check.specs.Stops.{visit_instances}
 
-pub stops_same : (tree : Tree) (enters : ℕ → Bool) → flat_map (stop_instances (param_values tree)) (visits tree enters) ≡ instances tree
+pub stops_same : (tree : Tree) (enters : ℕ → Bool) → flat_map (visit_instances (param_values tree)) (visits tree enters) ≡ instances tree
 stops_same tree enters = all_visited (param_values tree) enters tree.items 1 1 (no_values tree)

@@ -18,17 +18,17 @@ use Rattle.nest_rows.specs.Nested.{IsNestedInstance, Nested, nested_works}
 use Rattle.nest_rows.proofs.Nesting.{all-append}
 use Rattle.range_check.specs.Certified.{AreCertified}
 use Rattle.range_check.specs.Outside.{instance_outside, instances_outside, outside_of}
-use Rattle.range_check.specs.Stops.{instances_there, stop_instances}
+use Rattle.range_check.specs.Stops.{instances_there, visit_instances}
 use Rattle.range_check.specs.declared.outside.OutOfRange.{OutOfRange}
 use Rattle.range_check.proofs.CertifiedLists.{certified_instance}
 use Rattle.range_check.proofs.Lists.{none-instances, some_in_range}
 
 -- the instances of the first stop, and those of the others
 pub stop_first : (tree walked : Tree) (rounds : List Round) (s : Stop) (left rest : List Visit) → walked ≡ tree → left ≡ visit_at walked rounds s ∷ rest →
-    flat_map (stop_instances (param_values tree)) left ≡ instances_there tree rounds s ++ flat_map (stop_instances (param_values tree)) rest
+    flat_map (visit_instances (param_values tree)) left ≡ instances_there tree rounds s ++ flat_map (visit_instances (param_values tree)) rest
 stop_first tree walked rounds s left rest same is =
-    ap (flat_map (stop_instances (param_values tree))) is
-    ∙ ap (λ t. instances_of (param_values tree) (statement_of s.item.now) s.first (loops_in t rounds) ++ flat_map (stop_instances (param_values tree)) rest) same
+    ap (flat_map (visit_instances (param_values tree))) is
+    ∙ ap (λ t. instances_of (param_values tree) (statement_of s.item.now) s.first (loops_in t rounds) ++ flat_map (visit_instances (param_values tree)) rest) same
 
 pub outside-parts : (tree : Tree) (xs ys : List Instance) → instances_outside tree (xs ++ ys) ≡ option_or (instances_outside tree xs) (instances_outside tree ys)
 outside-parts tree [] ys = refl

@@ -1,16 +1,12 @@
 -- The instances at the stops of a walk, whatever loops it enters.
-use Rattle.std.specs.Prelude.{ℤ, List}
+use Rattle.std.specs.Prelude.{List}
 use Rattle.nest_tree.specs.Tree.{Tree, param_values}
 use Rattle.nest_tree.specs.View.{statement_of}
 use Rattle.nest_model.specs.Instances.{Instance, instances_of}
-use Rattle.nest_model.specs.Visits.{Visit}
+pub use Rattle.nest_model.specs.Visits.{visit_instances}
 use Rattle.nest_walk.specs.Cursors.{loops_in}
 use Rattle.nest_walk.specs.Paths.{Round}
 use Rattle.nest_walk.specs.declared.cursor.Stop.{Stop}
-
--- those of the statement at a stop
-abbrev pub stop_instances : List ℤ → Visit → List Instance
-stop_instances params v = instances_of params v.what v.first v.loops
 
 -- and of a stop with these loops round it
 abbrev pub instances_there : Tree → List Round → Stop → List Instance

@@ -35,7 +35,7 @@ use Rattle.maker_marks.specs.Tries.{tried_mark}
 use Rattle.maker_marks.specs.declared.tries.Tried.{Tried}
 use Rattle.plan_text.proofs.Counts.{counts_of_fit}
 use Rattle.plan_text.proofs.Written.{zipped-length}
-use Rattle.plan_text.specs.PlanText.{HasText, cut_loops, has_loop, is_32, is_anchor_shown, is_dist_shown, is_form_shown, is_kind_shown, is_loop_shown, is_phase_shown, zipped}
+use Rattle.plan_text.specs.PlanText.{HasText, cut_loops, has_loop, is_32, is_64, is_anchor_shown, is_certificate_shown, is_dist_shown, is_form_shown, is_kind_shown, is_loop_shown, is_phase_shown, zipped}
 use Rattle.plan_text.proofs.Splitting.{weaken}
 
 -- ---- lists of which each element passes a test
@@ -89,36 +89,33 @@ form_good constants around a good =
     let named = and_parts (names_only constants around a.form) (has_places a.dist) good in
     (and_parts (is_form a.form) loops (and_parts (is_form a.form && loops) params named.0).0).0
 
-dist_shown : (a : Anchor) → numbers.is_dist_shown a.dist ≡ true → is_dist_shown a.dist ≡ true
-dist_shown a h = h
-
-anchor_shown : (a : Anchor) → is_form a.form ≡ true → numbers.is_anchor_shown a ≡ true → is_anchor_shown a ≡ true
+anchor_shown : (a : Anchor) → is_form a.form ≡ true → numbers.is_anchor_held a ≡ true → is_anchor_shown a ≡ true
 anchor_shown a form shown =
-    let loops = list_all numbers.is_pair_shown a.form.loops in
-    let params = list_all numbers.is_pair_shown a.form.params in
-    let last = and_parts (loops && params) (numbers.is_dist_shown a.dist) shown in
+    let loops = list_all numbers.is_pair_held a.form.loops in
+    let params = list_all numbers.is_pair_held a.form.params in
+    let last = and_parts (loops && params) (is_dist_shown a.dist) shown in
     let first = and_parts loops params last.0 in
-    and_from (is_form_shown a.form) (is_dist_shown a.dist) (and_from (is_form a.form && loops) params (and_from (is_form a.form) loops form first.0) first.1) (dist_shown a last.1)
+    and_from (is_form_shown a.form) (is_dist_shown a.dist) (and_from (is_form a.form && loops) params (and_from (is_form a.form) loops form first.0) first.1) last.1
 
-anchors_shown : (constants : ℕ) (marks : List Mark) (text : List Placed) (anchors : List Anchor) → length anchors ≡ length text → are_good_anchors constants marks text anchors ≡ true → list_all numbers.is_anchor_shown anchors ≡ true → list_all is_anchor_shown anchors ≡ true
+anchors_shown : (constants : ℕ) (marks : List Mark) (text : List Placed) (anchors : List Anchor) → length anchors ≡ length text → are_good_anchors constants marks text anchors ≡ true → list_all numbers.is_anchor_held anchors ≡ true → list_all is_anchor_shown anchors ≡ true
 anchors_shown constants marks text [] long good shown = refl
 anchors_shown constants marks [] (a ∷ anchors) long good shown = absurd (omega (arith, long))
 anchors_shown constants marks (s ∷ text) (a ∷ anchors) long good shown =
     let around = own_loops marks s.what s.around in
     let goods = and_parts (is_good_anchor constants around a) (are_good_anchors constants marks text anchors) good in
-    let parts = and_parts (numbers.is_anchor_shown a) (list_all numbers.is_anchor_shown anchors) shown in
+    let parts = and_parts (numbers.is_anchor_held a) (list_all numbers.is_anchor_held anchors) shown in
     and_from (is_anchor_shown a) (list_all is_anchor_shown anchors) (anchor_shown a (form_good constants around a goods.0) parts.0) (anchors_shown constants marks text anchors (omega (arith, long)) goods.1 parts.1)
 
-kind_shown : (constants : ℕ) (around : List ℕ) (o : Option Anchor) → option_map_or (is_good_anchor constants around) o true ≡ true → option_map_or numbers.is_anchor_shown o true ≡ true → option_map_or is_anchor_shown o true ≡ true
+kind_shown : (constants : ℕ) (around : List ℕ) (o : Option Anchor) → option_map_or (is_good_anchor constants around) o true ≡ true → option_map_or numbers.is_anchor_held o true ≡ true → option_map_or is_anchor_shown o true ≡ true
 kind_shown constants around None good shown = refl
 kind_shown constants around (Some a) good shown = anchor_shown a (form_good constants around a good) shown
 
-kinds_shown : (constants : ℕ) (text : List Placed) (kinds : List Kind) → length kinds ≡ length text → are_good_kinds constants text kinds ≡ true → list_all numbers.is_kind_shown kinds ≡ true → list_all is_kind_shown kinds ≡ true
+kinds_shown : (constants : ℕ) (text : List Placed) (kinds : List Kind) → length kinds ≡ length text → are_good_kinds constants text kinds ≡ true → list_all numbers.is_kind_held kinds ≡ true → list_all is_kind_shown kinds ≡ true
 kinds_shown constants text [] long good shown = refl
 kinds_shown constants [] (k ∷ kinds) long good shown = absurd (omega (arith, long))
 kinds_shown constants (s ∷ text) (k ∷ kinds) long good shown =
     let goods = and_parts (is_good_kind constants s.around k) (are_good_kinds constants text kinds) good in
-    let parts = and_parts (numbers.is_kind_shown k) (list_all numbers.is_kind_shown kinds) shown in
+    let parts = and_parts (numbers.is_kind_held k) (list_all numbers.is_kind_held kinds) shown in
     and_from (is_kind_shown k) (list_all is_kind_shown kinds) (kind_shown constants s.around (anchor_in k) goods.0 parts.0) (kinds_shown constants text kinds (omega (arith, long)) goods.1 parts.1)
 
 -- ---- a loop with private scalars is dealt out
@@ -231,7 +228,7 @@ few_workers n h = grind (arith, nat_tests)
 
 -- ---- the whole
 
-pub has_text : (tree : Tree) (plan : Plan) → IsWellFormed tree → plan.version ≡ least_version plan.cut → plan.conditions ≡ Values → IsFit tree plan → IsReasonedCut tree plan.cut → numbers.IsShown plan → HasText plan
+pub has_text : (tree : Tree) (plan : Plan) → IsWellFormed tree → plan.version ≡ least_version plan.cut → plan.conditions ≡ Values → IsFit tree plan → IsReasonedCut tree plan.cut → numbers.IsHeld plan → HasText plan
 has_text tree plan formed version values fits reasoned shown =
     let text = static_phases tree plan.cut.marks in
     let constants = length tree.params in
@@ -249,5 +246,5 @@ has_text tree plan formed version values fits reasoned shown =
       loops = and_from (is_32 (length (cut_loops plan.cut))) (list_all (is_loop_shown plan.version) (cut_loops plan.cut)) (ap is_32 (zipped-length plan.cut.marks plan.cut.privates counts.lists) ∙ counts.loops) loops;
       pairs = counts.pairs;
       phases = and_from (is_32 (length (zipped plan.kinds plan.anchors))) (list_all is_phase_shown (zipped plan.kinds plan.anchors)) (ap is_32 (zipped-length plan.kinds plan.anchors counts.pairs) ∙ counts.phases) phases;
-      certificates = and_from (numbers.is_64 (length plan.certificates)) (list_all numbers.is_certificate_shown plan.certificates) shown.count shown.certificates;
+      certificates = and_from (is_64 (length plan.certificates)) (list_all is_certificate_shown plan.certificates) shown.count shown.certificates;
     }

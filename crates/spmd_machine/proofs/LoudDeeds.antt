@@ -15,7 +15,7 @@ use Rattle.nest_model.specs.Ranges.{IsInRange}
 use Rattle.nest_model.specs.Visits.{Visit}
 use Rattle.owner_partition.specs.declared.anchor.Anchor.{Anchor}
 use Rattle.owner_partition.specs.Owners.{anchor_owner}
-use Rattle.owner_partition.specs.Phases.{phase_instances, phases}
+use Rattle.owner_partition.specs.Phases.{visit_instances, phases}
 use Rattle.sync_plan.specs.Fit.{IsFit}
 use Rattle.sync_plan.specs.Own.{own_cell, own_loop, own_of}
 use Rattle.sync_plan.specs.Waits.{posts_at, waits_for}
@@ -69,12 +69,12 @@ module _ (tree : Tree) (plan : Plan) (p : ℕ) (none : (place : ℕ) → HasNoOw
       All-append IsLoud (own_deeds tree (own_of tree plan place) p i) (flat_map (own_deeds tree (own_of tree plan place) p) is) (instance_loud place i (All-head (λ j. AreThere tree (cells_of tree j)) i is all))
       (instances_loud place is (All-tail (λ j. AreThere tree (cells_of tree j)) i is all))
 
-  owned_there : (v : Visit) → AreAllThere (phase_instances (param_values tree) v) → AreAllThere (owned_by tree (slice_get plan.anchors (v.place - 1)) plan.workers p v)
+  owned_there : (v : Visit) → AreAllThere (visit_instances (param_values tree) v) → AreAllThere (owned_by tree (slice_get plan.anchors (v.place - 1)) plan.workers p v)
   owned_there v all = by (slice_get plan.anchors (v.place - 1))
     where
       by : (a : Option Anchor) → AreAllThere (owned_by tree a plan.workers p v)
       by None = All-nil (λ i. AreThere tree (cells_of tree i))
-      by (Some a) = All-filter (λ (i : Instance). anchor_owner a plan.workers i.loops (param_values tree) == p) (λ i. AreThere tree (cells_of tree i)) (phase_instances (param_values tree) v) all
+      by (Some a) = All-filter (λ (i : Instance). anchor_owner a plan.workers i.loops (param_values tree) == p) (λ i. AreThere tree (cells_of tree i)) (visit_instances (param_values tree) v) all
 
   -- words are no cells
   awaits_loud : (w : Word) (n : ℕ) (qs : List ℕ) → All IsLoud (map (λ q. awaiting w q n) qs)
@@ -102,14 +102,14 @@ module _ (tree : Tree) (plan : Plan) (p : ℕ) (none : (place : ℕ) → HasNoOw
       ++ flat_map (λ s. totalled_by (own_of tree plan v.place) (first_cell tree s) p (has_stored tree plan v (first_cell tree s) p)) (own_loop tree plan v.place).sums) (none v.place).privates
       ∙ ap (flat_map (λ s. totalled_by (own_of tree plan v.place) (first_cell tree s) p (has_stored tree plan v (first_cell tree s) p))) (none v.place).sums
 
-  part_loud : (style : Style) (e passed : ℕ) (v : Visit) → AreAllThere (phase_instances (param_values tree) v) → All IsLoud (part_deeds style tree plan p e passed v)
+  part_loud : (style : Style) (e passed : ℕ) (v : Visit) → AreAllThere (visit_instances (param_values tree) v) → All IsLoud (part_deeds style tree plan p e passed v)
   part_loud style e passed v all =
       let mine = owned_by tree (slice_get plan.anchors (v.place - 1)) plan.workers p v in
       let deeds = flat_map (own_deeds tree (own_of tree plan v.place) p) mine in
       All-append IsLoud (front_deeds style tree plan p e passed v) (deeds ++ closing_deeds tree plan p v) (front_loud style e passed v)
       (All-append IsLoud deeds (closing_deeds tree plan p v) (instances_loud v.place mine (owned_there v all)) (subst (All IsLoud) (sym (no_closings v)) (All-nil IsLoud)))
 
-  phases_loud : (style : Style) (e passed : ℕ) (vs : List Visit) → ((k : ℕ) (v : Visit) → slice_get vs k ≡ Some v → AreAllThere (phase_instances (param_values tree) v)) → All IsLoud (deeds_by style tree plan p e passed vs)
+  phases_loud : (style : Style) (e passed : ℕ) (vs : List Visit) → ((k : ℕ) (v : Visit) → slice_get vs k ≡ Some v → AreAllThere (visit_instances (param_values tree) v)) → All IsLoud (deeds_by style tree plan p e passed vs)
   phases_loud style e passed [] there = All-nil IsLoud
   phases_loud style e passed (v ∷ vs) there =
       let later = passed + signal_barriers style plan v in
@@ -124,4 +124,4 @@ module _ (tree : Tree) (plan : Plan) (p : ℕ) (none : (place : ℕ) → HasNoOw
 
     pub all_loud : (style : Style) → All IsLoud (all_of style tree plan p)
     unfolding all_of
-    all_loud style = phases_loud style 1 0 (phases tree plan.cut.marks) (λ k v at. all_there v (phase_instances (param_values tree) v) (all_fine tree plan k v formed fits ranges at))
+    all_loud style = phases_loud style 1 0 (phases tree plan.cut.marks) (λ k v at. all_there v (visit_instances (param_values tree) v) (all_fine tree plan k v formed fits ranges at))

@@ -22,7 +22,7 @@ use Rattle.nest_walk.specs.Texts.{Placed, placed, placed_in, placed_of}
 use Rattle.own_scalars.specs.OwnScalars.{has_access, is_of, is_plain_store, is_private, is_stored_first, loads, some_in, some_of}
 use Rattle.own_scalars.proofs.Stored.{neither}
 use Rattle.owner_partition.specs.Marks.{enters_outer}
-use Rattle.owner_partition.specs.Phases.{phase_instances, phases}
+use Rattle.owner_partition.specs.Phases.{visit_instances, phases}
 use Rattle.owner_partition.proofs.Sites.{All-flat_map, all_at}
 use Rattle.sync_plan.specs.declared.plan.Plan.{Plan}
 use Rattle.sync_plan.specs.Conflicts.{first_work, is_last_store, is_last_trip, is_value, last_value, works_before, works_before_in}
@@ -264,7 +264,7 @@ split_at before x after xs is =
 pub record IsLastStore (tree : Tree) (plan : Plan) (e : ℕ) (v : Visit) (u : ℕ) (body : Statements) (loops : List ℤ) : Type 0 where
   pub index : ℕ
   pub instance : Instance
-  pub at : slice_get (phase_instances (param_values tree) v) index ≡ Some instance
+  pub at : slice_get (visit_instances (param_values tree) v) index ≡ Some instance
   pub within : ℕ
   pub trip : slice_get (instances_in (param_values tree) body v.first loops) within ≡ Some instance
   pub plain : is_plain_store u instance.what ≡ true
@@ -281,7 +281,7 @@ last_store tree plan e k v head body u value formed at what loop_is private runs
     let loops = with_loop v.loops head.number value in
     let s = stores_first params u body v.first loops private runs in
     let front = flat_map inside trips.0 in
-    let all : phase_instances params v ≡ (front ++ s.before) ++ s.store ∷ (s.after ++ []) =
+    let all : visit_instances params v ≡ (front ++ s.before) ++ s.store ∷ (s.after ++ []) =
     ap (λ (x : Statement). instances_of params x v.first v.loops) what ∙ ap (flat_map inside) trips.1 ∙ flat_map-append inside trips.0 (value ∷ [])
     ∙ ap (λ l. front ++ (l ++ [])) s.split ∙ ap (λ l. front ++ l) (append_assoc s.before (s.store ∷ s.after) []) ∙ sym (append_assoc front s.before (s.store ∷ (s.after ++ []))) in
     let low : 1 ≤ head.number = omega (arith, good.number, f.there.low) in
@@ -308,7 +308,7 @@ last_store tree plan e k v head body u value formed at what loop_is private runs
     record {
       index = length (front ++ s.before);
       instance = s.store;
-      at = split_at (front ++ s.before) s.store (s.after ++ []) (phase_instances params v) all;
+      at = split_at (front ++ s.before) s.store (s.after ++ []) (visit_instances params v) all;
       within = length s.before;
       trip = within;
       plain = s.plain;

@@ -12,7 +12,7 @@ use Rattle.nest_model.specs.Instances.{Instance}
 use Rattle.nest_model.specs.Visits.{Visit}
 use Rattle.owner_partition.specs.declared.anchor.Anchor.{Anchor}
 use Rattle.owner_partition.specs.Owners.{owner_by}
-use Rattle.owner_partition.specs.Phases.{phase_instances, phases}
+use Rattle.owner_partition.specs.Phases.{visit_instances, phases}
 use Rattle.sync_plan.specs.declared.plan.Plan.{Plan}
 use Rattle.sync_plan.specs.Fit.{IsFit}
 use Rattle.sync_plan.specs.Own.{Own, own_cell, own_loop, own_of}
@@ -131,8 +131,8 @@ instances_deeds : (tree : Tree) (plan : Plan) (p e : ℕ) (v : Visit) (a : Ancho
     jobs_deeds p (instance_jobs tree plan e v) ≡ flat_map (own_deeds tree (own_of tree plan v.place) p) (owned_by tree (slice_get plan.anchors (v.place - 1)) plan.workers p v)
 instances_deeds tree plan p e v a at =
     let deeds = own_deeds tree (own_of tree plan v.place) p in
-    owned_jobs p (λ i. job_under tree plan (record { phase = e; place = v.place; instance = i })) deeds (phase_instances (param_values tree) v) (λ i is. ap (λ q. own_deeds tree (own_of tree plan v.place) q i) is)
-    ∙ ap (λ o. flat_map deeds (filter (λ (i : Instance). owner_by o plan.workers i.loops (param_values tree) == p) (phase_instances (param_values tree) v))) at
+    owned_jobs p (λ i. job_under tree plan (record { phase = e; place = v.place; instance = i })) deeds (visit_instances (param_values tree) v) (λ i is. ap (λ q. own_deeds tree (own_of tree plan v.place) q i) is)
+    ∙ ap (λ o. flat_map deeds (filter (λ (i : Instance). owner_by o plan.workers i.loops (param_values tree) == p) (visit_instances (param_values tree) v))) at
     ∙ sym (ap (λ o. flat_map deeds (owned_by tree o plan.workers p v)) at)
 
 -- ---- boundaries

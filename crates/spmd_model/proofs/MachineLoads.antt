@@ -20,7 +20,7 @@ use Rattle.nest_model.specs.Instances.{Instance, instances}
 use Rattle.nest_model.specs.Memory.{cell_value, first_memory, memory_after, memory_before}
 use Rattle.nest_model.specs.Ranges.{IsInRange}
 use Rattle.nest_model.specs.Visits.{Visit}
-use Rattle.owner_partition.specs.Phases.{Execution, executions, executions_from, phase_instances, phases}
+use Rattle.owner_partition.specs.Phases.{Execution, executions, executions_from, visit_instances, phases}
 use Rattle.owner_partition.proofs.Instances.{all_executed}
 use Rattle.sync_plan.specs.declared.plan.Plan.{Plan}
 use Rattle.sync_plan.specs.Fit.{IsFit}
@@ -70,27 +70,27 @@ parts_take style tree plan e passed (v ∷ vs) (suc k) = ap (λ l. part_of style
 abbrev instances_along : List ℤ → ℕ → List Visit → List Instance
 instances_along params e vs = map (λ (x : Execution). x.instance) (executions_from params e vs)
 
-along_cons : (params : List ℤ) (e : ℕ) (v : Visit) (vs : List Visit) → instances_along params e (v ∷ vs) ≡ phase_instances params v ++ instances_along params (suc e) vs
+along_cons : (params : List ℤ) (e : ℕ) (v : Visit) (vs : List Visit) → instances_along params e (v ∷ vs) ≡ visit_instances params v ++ instances_along params (suc e) vs
 along_cons params e v vs =
-    map-append (λ (x : Execution). x.instance) (map (λ i. record { phase = e; place = v.place; instance = i }) (phase_instances params v)) (executions_from params (suc e) vs)
-    ∙ ap (λ l. l ++ instances_along params (suc e) vs) (stripped e v.place (phase_instances params v))
+    map-append (λ (x : Execution). x.instance) (map (λ i. record { phase = e; place = v.place; instance = i }) (visit_instances params v)) (executions_from params (suc e) vs)
+    ∙ ap (λ l. l ++ instances_along params (suc e) vs) (stripped e v.place (visit_instances params v))
 
-take_instances : (params : List ℤ) (e : ℕ) (vs : List Visit) (k n : ℕ) (v : Visit) → slice_get vs k ≡ Some v → n ≤ length (phase_instances params v) →
-    take (execution_place params vs k + n) (instances_along params e vs) ≡ instances_along params e (take k vs) ++ take n (phase_instances params v)
+take_instances : (params : List ℤ) (e : ℕ) (vs : List Visit) (k n : ℕ) (v : Visit) → slice_get vs k ≡ Some v → n ≤ length (visit_instances params v) →
+    take (execution_place params vs k + n) (instances_along params e vs) ≡ instances_along params e (take k vs) ++ take n (visit_instances params v)
 take_instances params e [] k n v at le = let clash : None ≡ Some v = at in absurd (cc)
 take_instances params e (w ∷ vs) zero n v at le =
     let same : Some w ≡ Some v = at in
     let is : w ≡ v = cc in
     let first : execution_place params (w ∷ vs) 0 + n ≡ n = omega arith in
-    ap (take (execution_place params (w ∷ vs) 0 + n)) (along_cons params e w vs) ∙ ap (λ m. take m (phase_instances params w ++ instances_along params (suc e) vs)) first
-    ∙ take-append-le n (phase_instances params w) (instances_along params (suc e) vs) (omega (arith, le, ap (λ x. length (phase_instances params x)) is)) ∙ ap (λ x. take n (phase_instances params x)) is
+    ap (take (execution_place params (w ∷ vs) 0 + n)) (along_cons params e w vs) ∙ ap (λ m. take m (visit_instances params w ++ instances_along params (suc e) vs)) first
+    ∙ take-append-le n (visit_instances params w) (instances_along params (suc e) vs) (omega (arith, le, ap (λ x. length (visit_instances params x)) is)) ∙ ap (λ x. take n (visit_instances params x)) is
 take_instances params e (w ∷ vs) (suc k) n v at le =
-    let count : execution_place params (w ∷ vs) (suc k) + n ≡ length (phase_instances params w) + (execution_place params vs k + n) = omega arith in
-    ap (take (execution_place params (w ∷ vs) (suc k) + n)) (along_cons params e w vs) ∙ ap (λ m. take m (phase_instances params w ++ instances_along params (suc e) vs)) count
-    ∙ take-behind (phase_instances params w) (instances_along params (suc e) vs) (execution_place params vs k + n)
-    ∙ ap (λ l. phase_instances params w ++ l) (take_instances params (suc e) vs k n v at le)
-    ∙ sym (append_assoc (phase_instances params w) (instances_along params (suc e) (take k vs)) (take n (phase_instances params v)))
-    ∙ ap (λ l. l ++ take n (phase_instances params v)) (sym (along_cons params e w (take k vs)))
+    let count : execution_place params (w ∷ vs) (suc k) + n ≡ length (visit_instances params w) + (execution_place params vs k + n) = omega arith in
+    ap (take (execution_place params (w ∷ vs) (suc k) + n)) (along_cons params e w vs) ∙ ap (λ m. take m (visit_instances params w ++ instances_along params (suc e) vs)) count
+    ∙ take-behind (visit_instances params w) (instances_along params (suc e) vs) (execution_place params vs k + n)
+    ∙ ap (λ l. visit_instances params w ++ l) (take_instances params (suc e) vs k n v at le)
+    ∙ sym (append_assoc (visit_instances params w) (instances_along params (suc e) (take k vs)) (take n (visit_instances params v)))
+    ∙ ap (λ l. l ++ take n (visit_instances params v)) (sym (along_cons params e w (take k vs)))
 
 take_there : {X : Type 0} (xs : List X) (k n : ℕ) (x : X) → slice_get (take k xs) n ≡ Some x → slice_get xs n ≡ Some x
 take_there xs zero n x at = let clash : None ≡ Some x = at in absurd (cc)
@@ -188,7 +188,7 @@ count_front style tree plan e passed v = by (is_by_signals style plan v)
     by true = count_rounds plan.workers (passed * rounds_of plan.workers + 1) (range_with_len 0 (rounds_of plan.workers))
     by false = refl
 
-count_part : (style : Style) (tree : Tree) (plan : Plan) (e passed : ℕ) (v : Visit) → sum_by instances_in (moments_of (part_of style tree plan e passed v)) ≡ length (phase_instances (param_values tree) v)
+count_part : (style : Style) (tree : Tree) (plan : Plan) (e passed : ℕ) (v : Visit) → sum_by instances_in (moments_of (part_of style tree plan e passed v)) ≡ length (visit_instances (param_values tree) v)
 count_part style tree plan e passed v =
     let front = boundaries_by style tree plan e passed v in
     let jobs = instance_jobs tree plan e v in
@@ -196,7 +196,7 @@ count_part style tree plan e passed v =
     let a = sum_by-append instances_in front (map job (jobs ++ closings)) in
     let b = count_jobs (jobs ++ closings) in
     let c = sum_by-append (λ (j : Job). j.counts) jobs closings in
-    omega (arith, a, b, c, count_front style tree plan e passed v, count_instances tree plan e v (phase_instances (param_values tree) v), count_none closings (closing_counts tree plan v))
+    omega (arith, a, b, c, count_front style tree plan e passed v, count_instances tree plan e v (visit_instances (param_values tree) v), count_none closings (closing_counts tree plan v))
 
 count_parts : (style : Style) (tree : Tree) (plan : Plan) (e passed : ℕ) (vs : List Visit) (k : ℕ) → sum_by instances_in (flat_map moments_of (take k (parts_from style tree plan e passed vs))) ≡ execution_place (param_values tree) vs k
 count_parts style tree plan e passed vs zero = refl
@@ -208,7 +208,7 @@ count_parts style tree plan e passed (v ∷ vs) (suc k) =
 
 module _ (style : Style) (tree : Tree) (plan : Plan) (formed : IsWellFormed tree) (fits : IsFit tree plan) (ranges : IsInRange tree) (stored : AreStoredFirst tree plan) where
   -- at an instance of a phase, by its number there
-  module _ (k n : ℕ) (v : Visit) (i : Instance) (at : slice_get (phases tree plan.cut.marks) k ≡ Some v) (there : slice_get (phase_instances (param_values tree) v) n ≡ Some i) where
+  module _ (k n : ℕ) (v : Visit) (i : Instance) (at : slice_get (phases tree plan.cut.marks) k ≡ Some v) (there : slice_get (visit_instances (param_values tree) v) n ≡ Some i) where
     abbrev passed : ℕ
     passed = 0 + passed_before style plan (phases tree plan.cut.marks) k
 
@@ -222,13 +222,13 @@ module _ (style : Style) (tree : Tree) (plan : Plan) (formed : IsWellFormed tree
     plain = job_in_phase tree plan (1 + k) v formed (own_in_phase tree plan k v formed fits at)
 
     abbrev before : List Instance
-    before = take n (phase_instances (param_values tree) v)
+    before = take n (visit_instances (param_values tree) v)
 
     abbrev place : ℕ
     place = part_place (parts_by style tree plan) k + (length front + n)
 
-    within : n ≤ length (phase_instances (param_values tree) v)
-    within = let lt = slice_get_within (phase_instances (param_values tree) v) n i there in omega (arith, lt)
+    within : n ≤ length (visit_instances (param_values tree) v)
+    within = let lt = slice_get_within (visit_instances (param_values tree) v) n i there in omega (arith, lt)
 
     -- what stands in front of it
     in_front_of : take place (timeline_by style tree plan) ≡ flat_map moments_of (parts_from style tree plan 1 0 (take k (phases tree plan.cut.marks))) ++ (front ++ map job (map (λ x. own_job own (plain x)) before))
@@ -237,13 +237,13 @@ module _ (style : Style) (tree : Tree) (plan : Plan) (formed : IsWellFormed tree
         let part = part_of style tree plan (1 + k) passed v in
         let jobs = instance_jobs tree plan (1 + k) v in
         let closings = closings_of tree plan v in
-        let as_many : length jobs ≡ length (phase_instances (param_values tree) v) = length-map (phase_instances (param_values tree) v) (λ x. job_under tree plan (in_phase (1 + k) v x)) in
+        let as_many : length jobs ≡ length (visit_instances (param_values tree) v) = length-map (visit_instances (param_values tree) v) (λ x. job_under tree plan (in_phase (1 + k) v x)) in
         let fits_in : length front + n ≤ length (moments_of part) = omega (arith, part_length part, length-append jobs closings, as_many, within) in
         take_part (parts_by style tree plan) k (length front + n) part (part_at style tree plan 1 0 vs k v at) fits_in
         ∙ ap (λ l. flat_map moments_of l ++ take (length front + n) (moments_of part)) (parts_take style tree plan 1 0 vs k)
         ∙ ap (λ l. flat_map moments_of (parts_from style tree plan 1 0 (take k vs)) ++ l)
         (take-behind front (map job (jobs ++ closings)) n ∙ ap (λ l. front ++ l)
-        (take-map job n (jobs ++ closings) ∙ ap (map job) (take-append-le n jobs closings (omega (arith, as_many, within)) ∙ take-map (λ x. job_under tree plan (in_phase (1 + k) v x)) n (phase_instances (param_values tree) v))))
+        (take-map job n (jobs ++ closings) ∙ ap (map job) (take-append-le n jobs closings (omega (arith, as_many, within)) ∙ take-map (λ x. job_under tree plan (in_phase (1 + k) v x)) n (visit_instances (param_values tree) v))))
 
     number_is : instances_in_front style tree plan place ≡ execution_place (param_values tree) (phases tree plan.cut.marks) k + n
     number_is =
@@ -255,7 +255,7 @@ module _ (style : Style) (tree : Tree) (plan : Plan) (formed : IsWellFormed tree
         let c = count_parts style tree plan 1 0 vs k in
         let d = ap (λ l. sum_by instances_in (flat_map moments_of l)) (parts_take style tree plan 1 0 vs k) in
         let e = count_jobs jobs in
-        let size : length before ≡ n = length-take-le n (phase_instances (param_values tree) v) within in
+        let size : length before ≡ n = length-take-le n (visit_instances (param_values tree) v) within in
         omega (arith, a, b, c, d, e, count_front style tree plan (1 + k) passed v, count_instances tree plan (1 + k) v before, size)
 
     gives_here : (c : ℕ) → Contains (loads_of tree i) c → own.is_sum c ≡ false →
@@ -263,7 +263,7 @@ module _ (style : Style) (tree : Tree) (plan : Plan) (formed : IsWellFormed tree
     gives_here c among plain_load =
         let vs = phases tree plan.cut.marks in
         let params = param_values tree in
-        let is = phase_instances params v in
+        let is = visit_instances params v in
         let o = own_in_phase tree plan k v formed fits at in
         let early = flat_map moments_of (parts_from style tree plan 1 0 (take k vs)) in
         let first = replicate (cells_under tree plan) (pos 0) in
@@ -303,14 +303,14 @@ module _ (style : Style) (tree : Tree) (plan : Plan) (formed : IsWellFormed tree
       let jobs = instance_jobs tree plan (1 + x.number) x.visit in
       let closings = closings_of tree plan x.visit in
       elim (cases_lt x.index (length jobs)) [
-        | inl inside ↦ by x (slice_get (phase_instances (param_values tree) x.visit) x.index) refl (sym (slice_get-map (λ i. job_under tree plan (in_phase (1 + x.number) x.visit i)) (phase_instances (param_values tree) x.visit) x.index) ∙ sym (get-front jobs closings x.index inside) ∙ x.is)
+        | inl inside ↦ by x (slice_get (visit_instances (param_values tree) x.visit) x.index) refl (sym (slice_get-map (λ i. job_under tree plan (in_phase (1 + x.number) x.visit i)) (visit_instances (param_values tree) x.visit) x.index) ∙ sym (get-front jobs closings x.index inside) ∙ x.is)
         | inr past ↦
             let more : length jobs + (x.index - length jobs) ≡ x.index = omega (arith, past) in
             let among = contains_at closings (x.index - length jobs) j (sym (ap (slice_get (jobs ++ closings)) (sym more) ∙ get-behind jobs closings (x.index - length jobs)) ∙ x.is) in
             absurd (omega (arith, counts, closing_counts tree plan x.visit j among))
       ]
     where
-      by : (x : IsJobIn style tree plan place j) → (w : Option Instance) → slice_get (phase_instances (param_values tree) x.visit) x.index ≡ w → option_map (λ i. job_under tree plan (in_phase (1 + x.number) x.visit i)) w ≡ Some j → IsInstanceIn style tree plan place j
+      by : (x : IsJobIn style tree plan place j) → (w : Option Instance) → slice_get (visit_instances (param_values tree) x.visit) x.index ≡ w → option_map (λ i. job_under tree plan (in_phase (1 + x.number) x.visit i)) w ≡ Some j → IsInstanceIn style tree plan place j
       by x None there same = let clash : None ≡ Some j = same in absurd (cc)
       by x (Some i) there same =
           let equal : Some (job_under tree plan (in_phase (1 + x.number) x.visit i)) ≡ Some j = same in

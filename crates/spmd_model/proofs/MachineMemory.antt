@@ -16,7 +16,7 @@ use Rattle.nest_model.specs.Memory.{cell_value, first_memory, memory_after}
 use Rattle.nest_model.specs.Memory as Model
 use Rattle.nest_model.specs.Ranges.{IsInRange}
 use Rattle.nest_model.specs.Visits.{Visit}
-use Rattle.owner_partition.specs.Phases.{Execution, executions_from, phase_instances, phases}
+use Rattle.owner_partition.specs.Phases.{Execution, executions_from, visit_instances, phases}
 use Rattle.owner_partition.proofs.Instances.{all_executed}
 use Rattle.sync_plan.specs.declared.plan.Plan.{Plan}
 use Rattle.sync_plan.specs.Fit.{IsFit}
@@ -154,9 +154,9 @@ module _ (tree : Tree) (plan : Plan) (k : ℕ) (v : Visit) (formed : IsWellForme
 
   -- memory behind a phase follows the program's behind its instances
   pub phase_follows : (stored : AreStoredFirst tree plan) (style : Style) (passed : ℕ) (memory with_own : List ℤ) → Follows tree plan memory with_own →
-      Follows tree plan (fold (memory_after tree) memory (phase_instances (param_values tree) v)) (fold memory_behind with_own (moments_of (part_of style tree plan (1 + k) passed v)))
+      Follows tree plan (fold (memory_after tree) memory (visit_instances (param_values tree) v)) (fold memory_behind with_own (moments_of (part_of style tree plan (1 + k) passed v)))
   phase_follows stored style passed memory with_own f =
-      let is = phase_instances (param_values tree) v in
+      let is = visit_instances (param_values tree) v in
       let own = own_of tree plan v.place in
       let m = cell_value memory in
       let g = cell_value with_own in
@@ -192,7 +192,7 @@ module _ (style : Style) (tree : Tree) (plan : Plan) (formed : IsWellFormed tree
       let here : k + 0 ≡ k = omega arith in
       let at = ap (slice_get (phases tree plan.cut.marks)) (sym here) ∙ there 0 v refl in
       let next : suc (1 + k) ≡ 1 + suc k = omega arith in
-      let is = phase_instances params v in
+      let is = visit_instances params v in
       let executed = map (λ i. record { phase = 1 + k; place = v.place; instance = i }) is in
       let later = executions_from params (suc (1 + k)) vs in
       let part = moments_of (part_of style tree plan (1 + k) passed v) in

@@ -10,7 +10,7 @@ use Rattle.nest_tree.specs.WellFormed.{IsWellFormed}
 use Rattle.nest_model.specs.Instances.{Instance}
 use Rattle.nest_model.specs.Ranges.{IsInRange}
 use Rattle.nest_model.specs.Visits.{Visit}
-use Rattle.owner_partition.specs.Phases.{executions, phase_instances, phases}
+use Rattle.owner_partition.specs.Phases.{executions, visit_instances, phases}
 use Rattle.sync_plan.specs.declared.plan.Plan.{Plan}
 use Rattle.sync_plan.specs.Conflicts.{ConflictUnder, owner_under}
 use Rattle.sync_plan.specs.Fit.{IsFit}
@@ -107,7 +107,7 @@ module _ (style : Style) (tree : Tree) (plan : Plan) (formed : IsWellFormed tree
         ]
         | inr ge ↦
             let index : x.index ≡ y.index = omega (arith, le, ge) in
-            let one = one_element (slice_get (phase_instances (param_values tree) v) y.index) x.instance y.instance (ap (slice_get (phase_instances (param_values tree) v)) (sym index) ∙ x.at) y.at in
+            let one = one_element (slice_get (visit_instances (param_values tree) v) y.index) x.instance y.instance (ap (slice_get (visit_instances (param_values tree) v)) (sym index) ∙ x.at) y.at in
             x.owner ∙ ap (λ (n : Instance). phase_owner tree plan v n.loops) one ∙ sym y.owner
       ]
     ]
@@ -219,7 +219,7 @@ module _ (style : Style) (tree : Tree) (plan : Plan) (formed : IsWellFormed tree
             stored = elim stores [ inl h ↦ inl (a.stored conflict.cell h below) | inr h ↦ inr (b.stored conflict.cell h below) ];
             apart = λ sum same. omega (arith, same, before);
           } in
-          let within = slice_get_within (phase_instances (param_values tree) x.at.visit) x.stands.index x.stands.instance x.stands.at in
+          let within = slice_get_within (visit_instances (param_values tree) x.at.visit) x.stands.index x.stands.instance x.stands.at in
           let rise = execution_rises (param_values tree) (phases tree plan.cut.marks) x.at.number y.at.number x.stands.index y.stands.index x.at.visit before x.at.at within in
           let chain = ordered.chained x.number y.number X Y (omega (arith, rise, x.number_is, y.number_is)) x.execution y.execution under (λ same. apart (x.stands.owner ∙ same ∙ sym y.stands.owner)) in
           let parts = fit_parts tree plan fits in

@@ -13,7 +13,7 @@ use Rattle.nest_model.specs.Memory.{cell_value, first_memory, line_of, loaded_in
 use Rattle.nest_model.specs.Ranges.{IsInRange}
 use Rattle.nest_model.specs.Visits.{Visit}
 use Rattle.nest_model.proofs.Outputs.{output_from-append}
-use Rattle.owner_partition.specs.Phases.{Execution, executions_from, phase_instances, phases}
+use Rattle.owner_partition.specs.Phases.{Execution, executions_from, visit_instances, phases}
 use Rattle.owner_partition.proofs.Instances.{all_executed}
 use Rattle.sync_plan.specs.declared.plan.Plan.{Plan}
 use Rattle.sync_plan.specs.Fit.{IsFit}
@@ -124,9 +124,9 @@ module _ (tree : Tree) (plan : Plan) (k : ℕ) (v : Visit) (formed : IsWellForme
       (subst (λ n. AreWithin n (map plain is)) size within.1) (subst (λ n. AreWithin n (map (λ x. own_job own (plain x)) is)) (sym (length_behind with_own j')) within_own.1))
 
   pub phase_output : (stored : AreStoredFirst tree plan) (style : Style) (passed : ℕ) (memory with_own : List ℤ) → Follows tree plan memory with_own →
-      output_along with_own (moments_of (part_of style tree plan (1 + k) passed v)) ≡ output_from tree memory (phase_instances (param_values tree) v)
+      output_along with_own (moments_of (part_of style tree plan (1 + k) passed v)) ≡ output_from tree memory (visit_instances (param_values tree) v)
   phase_output stored style passed memory with_own f =
-      let is = phase_instances (param_values tree) v in
+      let is = visit_instances (param_values tree) v in
       let o = own_in_phase tree plan k v formed fits at in
       let front = boundaries_by style tree plan (1 + k) passed v in
       let jobs = instance_jobs tree plan (1 + k) v in
@@ -156,7 +156,7 @@ module _ (style : Style) (tree : Tree) (plan : Plan) (formed : IsWellFormed tree
       let here : k + 0 ≡ k = omega arith in
       let at = ap (slice_get (phases tree plan.cut.marks)) (sym here) ∙ there 0 v refl in
       let next : suc (1 + k) ≡ 1 + suc k = omega arith in
-      let is = phase_instances params v in
+      let is = visit_instances params v in
       let executed = map (λ i. record { phase = 1 + k; place = v.place; instance = i }) is in
       let later = executions_from params (suc (1 + k)) vs in
       let part = moments_of (part_of style tree plan (1 + k) passed v) in

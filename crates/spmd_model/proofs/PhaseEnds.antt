@@ -14,7 +14,7 @@ use Rattle.nest_model.specs.Accesses.{store_of}
 use Rattle.nest_model.specs.Instances.{Instance, head_trips, instances_in, instances_of, with_loop}
 use Rattle.nest_model.specs.Ranges.{IsInRange}
 use Rattle.nest_model.specs.Visits.{Visit}
-use Rattle.owner_partition.specs.Phases.{phase_instances, phases}
+use Rattle.owner_partition.specs.Phases.{visit_instances, phases}
 use Rattle.owner_partition.proofs.Sites.{all_at}
 use Rattle.sync_plan.specs.declared.plan.Plan.{Plan}
 use Rattle.sync_plan.specs.Conflicts.{last_value}
@@ -97,7 +97,7 @@ module _ (tree : Tree) (plan : Plan) (k : ℕ) (v : Visit) (formed : IsWellForme
   own = own_of tree plan v.place
 
   abbrev pub plain_jobs : List Job
-  plain_jobs = map (job_in_phase tree plan (1 + k) v formed o) (phase_instances (param_values tree) v)
+  plain_jobs = map (job_in_phase tree plan (1 + k) v formed o) (visit_instances (param_values tree) v)
 
   -- memory behind the instances, and memory with own cells
   abbrev pub behind_plain : ℕ → ℤ
@@ -117,7 +117,7 @@ module _ (tree : Tree) (plan : Plan) (k : ℕ) (v : Visit) (formed : IsWellForme
 
   assigned_is : (c n p : ℕ) → own.slot c ≡ Some n → own.is_sum c ≡ true → assigned c p ≡ has_stored tree plan v c p
   assigned_is c n p slot sum =
-      assigned_by own c n slot sum (job_in_phase tree plan (1 + k) v formed o) (λ i. phase_owner tree plan v i.loops) (store_of tree) (λ i. refl) (λ i. refl) (λ c p. false) (phase_instances (param_values tree) v) p
+      assigned_by own c n slot sum (job_in_phase tree plan (1 + k) v formed o) (λ i. phase_owner tree plan v i.loops) (store_of tree) (λ i. refl) (λ i. refl) (λ c p. false) (visit_instances (param_values tree) v) p
 
   abbrev private_cells : List ℕ
   private_cells = map (first_cell tree) (own_loop tree plan v.place).privates
@@ -202,7 +202,7 @@ module _ (tree : Tree) (plan : Plan) (k : ℕ) (v : Visit) (formed : IsWellForme
 
           by_value : (w : Option ℤ) → last_value (head_trips (param_values tree) head v.loops) ≡ w → fold behind_job behind_own (closings_of tree plan v) c ≡ behind_plain c
           by_value None is =
-              let empty : phase_instances (param_values tree) v ≡ [] =
+              let empty : visit_instances (param_values tree) v ≡ [] =
               ap (λ (s : Statement). instances_of (param_values tree) s v.first v.loops) what ∙ ap (flat_map (λ x. instances_in (param_values tree) body v.first (with_loop v.loops head.number x))) (no_trips (head_trips (param_values tree) head v.loops) is) in
               let kept_none = none_of_all (keeping_of tree plan v) (own_loop tree plan v.place).privates (λ s. ap (keeping own (first_cell tree s)) (no_last tree plan v head body what is)) in
               let has_none : (d p : ℕ) → has_stored tree plan v d p ≡ false = λ d p. ap (list_any (λ (i : Instance). phase_owner tree plan v i.loops == p && stores_to (store_of tree i) d)) empty in
@@ -294,9 +294,9 @@ module _ (tree : Tree) (plan : Plan) (k : ℕ) (v : Visit) (formed : IsWellForme
       cleared u among slot is =
           let c = first_cell tree u in
           let has : has_stored tree plan v c p ≡ true = sym (assigned_is c n p slot (cell_there tree (own_loop tree plan v.place).sums u among)) ∙ is in
-          let some = any_there (λ (i : Instance). phase_owner tree plan v i.loops == p && stores_to (store_of tree i) c) (phase_instances (param_values tree) v) has in
+          let some = any_there (λ (i : Instance). phase_owner tree plan v i.loops == p && stores_to (store_of tree i) c) (visit_instances (param_values tree) v) has in
           let owner = eqb-true (phase_owner tree plan v some.1.loops) p (and_parts (phase_owner tree plan v some.1.loops == p) (stores_to (store_of tree some.1) c) some.3).0 in
-          let fine = all_at (IsFineIn tree plan v) (phase_instances (param_values tree) v) some.0 some.1 (all_fine tree plan k v formed fits ranges at) some.2 in
+          let fine = all_at (IsFineIn tree plan v) (visit_instances (param_values tree) v) some.0 some.1 (all_fine tree plan k v formed fits ranges at) some.2 in
           let worker : p < plan.workers = omega (arith, fine.worker, owner) in
           let cell : own_cell own p c ≡ cell_count tree + (32 * p + n) = ap (at_slot own p c) slot in
           let in_total : Contains (total_of tree plan v u p) (sets_to_zero p (cell_count tree + (32 * p + n))) = subst (λ b. Contains (totalling own c p b) (sets_to_zero p (cell_count tree + (32 * p + n)))) (sym has) (1, omega arith, ap (sets_to_zero p) cell) in

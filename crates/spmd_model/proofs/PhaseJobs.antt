@@ -16,7 +16,7 @@ use Rattle.nest_model.specs.Ranges.{IsInRange}
 use Rattle.nest_model.specs.Visits.{Visit}
 use Rattle.own_scalars.specs.OwnScalars.{is_other, is_private, is_sum, some_in, some_of, stores}
 use Rattle.owner_partition.specs.Cuts.{privates_of}
-use Rattle.owner_partition.specs.Phases.{Execution, executions, phase_instances, phases}
+use Rattle.owner_partition.specs.Phases.{Execution, executions, visit_instances, phases}
 use Rattle.owner_partition.proofs.Sites.{all_at}
 use Rattle.sync_plan.specs.declared.plan.Plan.{Plan}
 use Rattle.sync_plan.specs.Conflicts.{last_value, owner_under, works_before}
@@ -52,17 +52,17 @@ module _ (tree : Tree) (plan : Plan) (k : ℕ) (v : Visit) (formed : IsWellForme
   no_others u (work w) is = absurd (true≢false (sym is))
   no_others u (continue line) is = refl
 
-  pub all_fine : All (IsFineIn tree plan v) (phase_instances (param_values tree) v)
-  all_fine = all_from (IsFineIn tree plan v) (phase_instances (param_values tree) v) (λ n i there.
+  pub all_fine : All (IsFineIn tree plan v) (visit_instances (param_values tree) v)
+  all_fine = all_from (IsFineIn tree plan v) (visit_instances (param_values tree) v) (λ n i there.
       let o = own_in_phase tree plan k v formed fits at in
       let params = param_values tree in
       let number = execution_place params (phases tree plan.cut.marks) k + n in
       let x = in_phase (1 + k) v i in
       let execution = execution_there params 1 (phases tree plan.cut.marks) k n v i at there in
       record {
-        good = all_at (IsGoodWork tree) (phase_instances params v) n i (good_of tree params v.what o.around o.number v.first v.loops o.good) there;
+        good = all_at (IsGoodWork tree) (visit_instances params v) n i (good_of tree params v.what o.around o.number v.first v.loops o.good) there;
         inside = execution_inside tree plan.cut.marks number x ranges execution;
-        summed = λ u among. all_at (λ (j : Instance). is_other u j.what ≡ false) (phase_instances params v) n i (none_in params (is_other u) v.what v.first v.loops (no_others u v.what (sum_is tree plan v o u among).0)) there;
+        summed = λ u among. all_at (λ (j : Instance). is_other u j.what ≡ false) (visit_instances params v) n i (none_in params (is_other u) v.what v.first v.loops (no_others u v.what (sum_is tree plan v o u among).0)) there;
         worker = all_at (λ (y : Execution). owner_under tree plan y < plan.workers) (executions tree plan.cut.marks) number x (owners_below tree plan formed fits) execution;
       })
 
@@ -88,7 +88,7 @@ module _ (tree : Tree) (plan : Plan) (k : ℕ) (v : Visit) (formed : IsWellForme
 
     -- behind the last of them
     pub last_kept : (last : ℕ → Option ℕ) (value : ℤ) (u : ℕ) → Contains (own_loop tree plan v.place).privates u → last_value (head_trips (param_values tree) head v.loops) ≡ Some value →
-        fold (last_behind (own_of tree plan v.place)) last (map (job_in_phase tree plan (1 + k) v formed (own_in_phase tree plan k v formed fits at)) (phase_instances (param_values tree) v)) (first_cell tree u) ≡ Some (phase_owner tree plan v (with_loop v.loops head.number value))
+        fold (last_behind (own_of tree plan v.place)) last (map (job_in_phase tree plan (1 + k) v formed (own_in_phase tree plan k v formed fits at)) (visit_instances (param_values tree) v)) (first_cell tree u) ≡ Some (phase_owner tree plan v (with_loop v.loops head.number value))
     last_kept last value u among is =
         let o = own_in_phase tree plan k v formed fits at in
         let own = own_of tree plan v.place in
@@ -96,7 +96,7 @@ module _ (tree : Tree) (plan : Plan) (k : ℕ) (v : Visit) (formed : IsWellForme
         let f : ℤ → List Instance = λ y. instances_in (param_values tree) body v.first (with_loop v.loops head.number y) in
         let p = phase_owner tree plan v (with_loop v.loops head.number value) in
         let split = last_split (head_trips (param_values tree) head v.loops) value is in
-        let all : phase_instances (param_values tree) v ≡ flat_map f split.0 ++ f value =
+        let all : visit_instances (param_values tree) v ≡ flat_map f split.0 ++ f value =
         ap (λ (s : Statement). instances_of (param_values tree) s v.first v.loops) what ∙ ap (flat_map f) split.1 ∙ flat_map-append f split.0 (value ∷ []) ∙ ap (λ l. flat_map f split.0 ++ l) (append-nil (f value)) in
         let fine = All-right (IsFineIn tree plan v) (flat_map f split.0) (f value) (subst (All (IsFineIn tree plan v)) all all_fine) in
         let s = slot_there tree plan v o (first_cell tree u) (inl (cell_there tree (own_loop tree plan v.place).privates u among)) in
@@ -110,21 +110,21 @@ module _ (tree : Tree) (plan : Plan) (k : ℕ) (v : Visit) (formed : IsWellForme
 
   -- a phase without a loop
   module _ (p : ℕ) (none : (own_loop tree plan v.place).privates ≡ []) where
-    single_good : (last : ℕ → Option ℕ) → All (λ (i : Instance). phase_owner tree plan v i.loops ≡ p) (phase_instances (param_values tree) v) →
-        AreGoodJobs (own_of tree plan v.place) last (map (job_in_phase tree plan (1 + k) v formed (own_in_phase tree plan k v formed fits at)) (phase_instances (param_values tree) v))
+    single_good : (last : ℕ → Option ℕ) → All (λ (i : Instance). phase_owner tree plan v i.loops ≡ p) (visit_instances (param_values tree) v) →
+        AreGoodJobs (own_of tree plan v.place) last (map (job_in_phase tree plan (1 + k) v formed (own_in_phase tree plan k v formed fits at)) (visit_instances (param_values tree) v))
     single_good last owners =
-        trip_good tree plan (1 + k) v formed (own_in_phase tree plan k v formed fits at) (phase_instances (param_values tree) v) p owners all_fine (λ u among. absurd (nobody u (subst (λ l. Contains l u) none among))) last
+        trip_good tree plan (1 + k) v formed (own_in_phase tree plan k v formed fits at) (visit_instances (param_values tree) v) p owners all_fine (λ u among. absurd (nobody u (subst (λ l. Contains l u) none among))) last
       where
         nobody : (u : ℕ) → Contains {X = ℕ} [] u → ⊥
         nobody u (n, lt, e) = omega (arith, lt)
 
-  pub phase_good : AreStoredFirst tree plan → (last : ℕ → Option ℕ) → AreGoodJobs (own_of tree plan v.place) last (map (job_in_phase tree plan (1 + k) v formed (own_in_phase tree plan k v formed fits at)) (phase_instances (param_values tree) v))
+  pub phase_good : AreStoredFirst tree plan → (last : ℕ → Option ℕ) → AreGoodJobs (own_of tree plan v.place) last (map (job_in_phase tree plan (1 + k) v formed (own_in_phase tree plan k v formed fits at)) (visit_instances (param_values tree) v))
   phase_good stored last = by v.what refl
     where
       o : AreOwnIn tree plan v
       o = own_in_phase tree plan k v formed fits at
 
-      by : (s : Statement) → v.what ≡ s → AreGoodJobs (own_of tree plan v.place) last (map (job_in_phase tree plan (1 + k) v formed (own_in_phase tree plan k v formed fits at)) (phase_instances (param_values tree) v))
+      by : (s : Statement) → v.what ≡ s → AreGoodJobs (own_of tree plan v.place) last (map (job_in_phase tree plan (1 + k) v formed (own_in_phase tree plan k v formed fits at)) (visit_instances (param_values tree) v))
       by (do_loop head body) what =
           let is = ap (λ (s : Statement). instances_of (param_values tree) s v.first v.loops) what in
           subst (λ l. AreGoodJobs (own_of tree plan v.place) last (map (job_in_phase tree plan (1 + k) v formed (own_in_phase tree plan k v formed fits at)) l)) (sym is)

@@ -16,7 +16,7 @@ use Rattle.nest_model.specs.Instances.{Instance, instances}
 use Rattle.nest_model.specs.Memory.{cell_value, memory_before}
 use Rattle.nest_model.specs.Ranges.{IsInRange}
 use Rattle.nest_model.specs.Visits.{Visit}
-use Rattle.owner_partition.specs.Phases.{phase_instances}
+use Rattle.owner_partition.specs.Phases.{visit_instances}
 use Rattle.sync_plan.specs.declared.plan.Plan.{Plan}
 use Rattle.sync_plan.specs.Fit.{IsFit}
 use Rattle.sync_plan.specs.Own.{OwnLoop, at_slot, is_cell_of, own_cell, own_loop, own_of, place_in}
@@ -90,7 +90,7 @@ data Sorts (tree : Tree) (j : Job) : Type 0 where
 sort_of : (style : Style) (tree : Tree) (plan : Plan) (t : ℕ) (j : Job) → IsWellFormed tree → IsFit tree plan → slice_get (timeline_by style tree plan) t ≡ Some (job j) → Sorts tree j
 sort_of style tree plan t j formed fits at =
     elim (cases_lt x.index (length jobs)) [
-      | inl inside ↦ by (slice_get (phase_instances (param_values tree) x.visit) x.index) (sym (slice_get-map (λ i. job_under tree plan (in_phase (1 + x.number) x.visit i)) (phase_instances (param_values tree) x.visit) x.index) ∙ sym (get-front jobs closings x.index inside) ∙ x.is)
+      | inl inside ↦ by (slice_get (visit_instances (param_values tree) x.visit) x.index) (sym (slice_get-map (λ i. job_under tree plan (in_phase (1 + x.number) x.visit i)) (visit_instances (param_values tree) x.visit) x.index) ∙ sym (get-front jobs closings x.index inside) ∙ x.is)
       | inr past ↦
           let more : length jobs + (x.index - length jobs) ≡ x.index = omega (arith, past) in
           a_closing (closing_is tree plan x.visit (own_in_phase tree plan x.number x.visit formed fits x.at) j

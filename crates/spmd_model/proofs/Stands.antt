@@ -19,7 +19,7 @@ use Rattle.nest_model.specs.Visits.{Visit}
 use Rattle.nest_walk.proofs.CellPlaces.{cells_below}
 use Rattle.own_scalars.specs.OwnScalars.{is_of, is_plain_store, is_private, loads}
 use Rattle.owner_partition.specs.Cuts.{privates_of}
-use Rattle.owner_partition.specs.Phases.{Execution, executions, executions_from, phase_instances, phases}
+use Rattle.owner_partition.specs.Phases.{Execution, executions, executions_from, visit_instances, phases}
 use Rattle.owner_partition.proofs.Sites.{all_at}
 use Rattle.sync_plan.specs.declared.plan.Plan.{Plan}
 use Rattle.sync_plan.specs.Conflicts.{is_last_store, owner_under, seen_by, seen_cells, seen_loads, seen_store, seen_stored}
@@ -58,39 +58,39 @@ any_there test (x ∷ xs) e = elim (cases_Bool (test x)) [
 abbrev pub execution_place : List ℤ → List Visit → ℕ → ℕ
 execution_place params vs zero = 0
 execution_place params [] (suc k) = 0
-execution_place params (v ∷ vs) (suc k) = length (phase_instances params v) + execution_place params vs k
+execution_place params (v ∷ vs) (suc k) = length (visit_instances params v) + execution_place params vs k
 
-pub execution_there : (params : List ℤ) (e : ℕ) (vs : List Visit) (k i : ℕ) (v : Visit) (x : Instance) → slice_get vs k ≡ Some v → slice_get (phase_instances params v) i ≡ Some x →
+pub execution_there : (params : List ℤ) (e : ℕ) (vs : List Visit) (k i : ℕ) (v : Visit) (x : Instance) → slice_get vs k ≡ Some v → slice_get (visit_instances params v) i ≡ Some x →
     slice_get (executions_from params e vs) (execution_place params vs k + i) ≡ Some (record { phase = e + k; place = v.place; instance = x })
 execution_there params e [] k i v x at is = let clash : None ≡ Some v = at in absurd (cc)
 execution_there params e (w ∷ vs) zero i v x at is =
     let same : Some w ≡ Some v = at in
     let equal : w ≡ v = cc in
     let here : Instance → Execution = λ y. record { phase = e; place = w.place; instance = y } in
-    let at_w : slice_get (phase_instances params w) i ≡ Some x = ap (λ y. slice_get (phase_instances params y) i) equal ∙ is in
-    let within = slice_get_within (phase_instances params w) i x at_w in
+    let at_w : slice_get (visit_instances params w) i ≡ Some x = ap (λ y. slice_get (visit_instances params y) i) equal ∙ is in
+    let within = slice_get_within (visit_instances params w) i x at_w in
     let first : execution_place params (w ∷ vs) 0 + i ≡ i = omega arith in
     let number : e ≡ e + 0 = omega arith in
-    ap (slice_get (map here (phase_instances params w) ++ executions_from params (suc e) vs)) first
-    ∙ get-front (map here (phase_instances params w)) (executions_from params (suc e) vs) i (omega (arith, within, length-map (phase_instances params w) here))
-    ∙ slice_get-map here (phase_instances params w) i ∙ ap (option_map here) at_w
+    ap (slice_get (map here (visit_instances params w) ++ executions_from params (suc e) vs)) first
+    ∙ get-front (map here (visit_instances params w)) (executions_from params (suc e) vs) i (omega (arith, within, length-map (visit_instances params w) here))
+    ∙ slice_get-map here (visit_instances params w) i ∙ ap (option_map here) at_w
     ∙ ap (λ (y : Visit). Some (record { phase = e; place = y.place; instance = x })) equal ∙ ap (λ n. Some (record { phase = n; place = v.place; instance = x })) number
 execution_there params e (w ∷ vs) (suc k) i v x at is =
     let here : Instance → Execution = λ y. record { phase = e; place = w.place; instance = y } in
     let rest = execution_there params (suc e) vs k i v x at is in
-    let count : execution_place params (w ∷ vs) (suc k) + i ≡ length (map here (phase_instances params w)) + (execution_place params vs k + i) = omega (arith, length-map (phase_instances params w) here) in
+    let count : execution_place params (w ∷ vs) (suc k) + i ≡ length (map here (visit_instances params w)) + (execution_place params vs k + i) = omega (arith, length-map (visit_instances params w) here) in
     let number : suc e + k ≡ e + suc k = omega arith in
-    ap (slice_get (map here (phase_instances params w) ++ executions_from params (suc e) vs)) count
-    ∙ get-behind (map here (phase_instances params w)) (executions_from params (suc e) vs) (execution_place params vs k + i) ∙ rest
+    ap (slice_get (map here (visit_instances params w) ++ executions_from params (suc e) vs)) count
+    ∙ get-behind (map here (visit_instances params w)) (executions_from params (suc e) vs) (execution_place params vs k + i) ∙ rest
     ∙ ap (λ n. Some (record { phase = n; place = v.place; instance = x })) number
 
-pub execution_rises : (params : List ℤ) (vs : List Visit) (k l i j : ℕ) (v : Visit) → k < l → slice_get vs k ≡ Some v → i < length (phase_instances params v) → execution_place params vs k + i < execution_place params vs l + j
+pub execution_rises : (params : List ℤ) (vs : List Visit) (k l i j : ℕ) (v : Visit) → k < l → slice_get vs k ≡ Some v → i < length (visit_instances params v) → execution_place params vs k + i < execution_place params vs l + j
 execution_rises params [] k l i j v lt at within = let clash : None ≡ Some v = at in absurd (cc)
 execution_rises params (w ∷ vs) k zero i j v lt at within = absurd (omega (arith, lt))
 execution_rises params (w ∷ vs) zero (suc l) i j v lt at within =
     let same : Some w ≡ Some v = at in
     let equal : w ≡ v = cc in
-    omega (arith, within, ap (λ y. length (phase_instances params y)) equal)
+    omega (arith, within, ap (λ y. length (visit_instances params y)) equal)
 execution_rises params (w ∷ vs) (suc k) (suc l) i j v lt at within = let rest = execution_rises params vs k l i j v (omega (arith, lt)) at within in omega (arith, rest)
 
 -- ---- what is shown
@@ -118,7 +118,7 @@ pub record Shows (tree : Tree) (plan : Plan) (e : ℕ) (v : Visit) (i : Instance
 pub record Stands (tree : Tree) (plan : Plan) (e : ℕ) (v : Visit) (j : Job) : Type 0 where
   pub index : ℕ
   pub instance : Instance
-  pub at : slice_get (phase_instances (param_values tree) v) index ≡ Some instance
+  pub at : slice_get (visit_instances (param_values tree) v) index ≡ Some instance
   pub owner : j.owner ≡ phase_owner tree plan v instance.loops
   pub printed : j.store ≡ None → store_of tree instance ≡ None
   pub shows : IsInRange tree → Shows tree plan e v instance j
@@ -373,8 +373,8 @@ module _ (tree : Tree) (plan : Plan) (e k : ℕ) (v : Visit) (formed : IsWellFor
 
   -- of a processor's total
   module _ (u q : ℕ) (among : Contains (own_loop tree plan v.place).sums u) (has : has_stored tree plan v (first_cell tree u) q ≡ true) where
-    stored_there : (n : ℕ) × (i : Instance) × (slice_get (phase_instances (param_values tree) v) n ≡ Some i) × ((phase_owner tree plan v i.loops == q && stores_to (store_of tree i) (first_cell tree u)) ≡ true)
-    stored_there = any_there (λ (i : Instance). phase_owner tree plan v i.loops == q && stores_to (store_of tree i) (first_cell tree u)) (phase_instances (param_values tree) v) has
+    stored_there : (n : ℕ) × (i : Instance) × (slice_get (visit_instances (param_values tree) v) n ≡ Some i) × ((phase_owner tree plan v i.loops == q && stores_to (store_of tree i) (first_cell tree u)) ≡ true)
+    stored_there = any_there (λ (i : Instance). phase_owner tree plan v i.loops == q && stores_to (store_of tree i) (first_cell tree u)) (visit_instances (param_values tree) v) has
 
     no_private_cell : is_cell_of tree (own_loop tree plan v.place).privates (first_cell tree u) ≡ false
     no_private_cell = elim (cases_Bool (is_cell_of tree (own_loop tree plan v.place).privates (first_cell tree u))) [
@@ -477,7 +477,7 @@ pub record IsOwned (tree : Tree) (plan : Plan) (j : Job) : Type 0 where
   pub own : IsInRange tree → (c : ℕ) → Has j c → cell_count tree ≤ c → (n : ℕ) × (n < 32) × (c ≡ cell_count tree + (32 * j.owner + n))
 
 module _ (tree : Tree) (plan : Plan) (k : ℕ) (v : Visit) (formed : IsWellFormed tree) (fits : IsFit tree plan) (at : slice_get (phases tree plan.cut.marks) k ≡ Some v) where
-  instance_stands : (n : ℕ) (i : Instance) → slice_get (phase_instances (param_values tree) v) n ≡ Some i → Stands tree plan (1 + k) v (job_under tree plan (record { phase = 1 + k; place = v.place; instance = i }))
+  instance_stands : (n : ℕ) (i : Instance) → slice_get (visit_instances (param_values tree) v) n ≡ Some i → Stands tree plan (1 + k) v (job_under tree plan (record { phase = 1 + k; place = v.place; instance = i }))
   instance_stands n i there = record {
     index = n;
     instance = i;
@@ -487,16 +487,16 @@ module _ (tree : Tree) (plan : Plan) (k : ℕ) (v : Visit) (formed : IsWellForme
     shows = λ ranges.
         let o = own_in_phase tree plan k v formed fits at in
         let vs = phases tree plan.cut.marks in
-        let good = all_at (IsGoodWork tree) (phase_instances (param_values tree) v) n i (good_of tree (param_values tree) v.what o.around o.number v.first v.loops o.good) there in
+        let good = all_at (IsGoodWork tree) (visit_instances (param_values tree) v) n i (good_of tree (param_values tree) v.what o.around o.number v.first v.loops o.good) there in
         let inside = execution_inside tree plan.cut.marks (execution_place (param_values tree) vs k + n) (record { phase = 1 + k; place = v.place; instance = i }) ranges (execution_there (param_values tree) 1 vs k n v i at there) in
         instance_shows tree plan (1 + k) v o i (cells_there tree i formed good inside);
   }
 
   -- what holds of each instance's job and of each closing holds of each job of the phase
-  each_job : (P : Job → Type 0) → ((n : ℕ) (i : Instance) → slice_get (phase_instances (param_values tree) v) n ≡ Some i → P (job_under tree plan (record { phase = 1 + k; place = v.place; instance = i }))) → ((j : Job) → Contains (closings_of tree plan v) j → P j) →
+  each_job : (P : Job → Type 0) → ((n : ℕ) (i : Instance) → slice_get (visit_instances (param_values tree) v) n ≡ Some i → P (job_under tree plan (record { phase = 1 + k; place = v.place; instance = i }))) → ((j : Job) → Contains (closings_of tree plan v) j → P j) →
       (n : ℕ) (j : Job) → slice_get (instance_jobs tree plan (1 + k) v ++ closings_of tree plan v) n ≡ Some j → P j
   each_job P instances closed n j is = elim (cases_lt n (length jobs)) [
-    | inl inside ↦ by_instance (slice_get (phase_instances (param_values tree) v) n) refl (sym (slice_get-map f (phase_instances (param_values tree) v) n) ∙ sym (get-front jobs closings n inside) ∙ is)
+    | inl inside ↦ by_instance (slice_get (visit_instances (param_values tree) v) n) refl (sym (slice_get-map f (visit_instances (param_values tree) v) n) ∙ sym (get-front jobs closings n inside) ∙ is)
     | inr past ↦
         let more : length jobs + (n - length jobs) ≡ n = omega (arith, past) in
         closed j (contains_at closings (n - length jobs) j (sym (ap (slice_get (jobs ++ closings)) (sym more) ∙ get-behind jobs closings (n - length jobs)) ∙ is))
@@ -511,7 +511,7 @@ module _ (tree : Tree) (plan : Plan) (k : ℕ) (v : Visit) (formed : IsWellForme
       closings : List Job
       closings = closings_of tree plan v
 
-      by_instance : (w : Option Instance) → slice_get (phase_instances (param_values tree) v) n ≡ w → option_map f w ≡ Some j → P j
+      by_instance : (w : Option Instance) → slice_get (visit_instances (param_values tree) v) n ≡ w → option_map f w ≡ Some j → P j
       by_instance None there same = let clash : None ≡ Some j = same in absurd (cc)
       by_instance (Some i) there same = let equal : Some (f i) ≡ Some j = same in let is_j : f i ≡ j = cc in subst P is_j (instances n i there)
 

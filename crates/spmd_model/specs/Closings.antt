@@ -8,7 +8,7 @@ use Rattle.nest_model.specs.Accesses.{store_of}
 use Rattle.nest_model.specs.Instances.{Instance, head_trips, instances_in, with_loop}
 use Rattle.nest_model.specs.Visits.{Visit}
 use Rattle.owner_partition.specs.Owners.{owner_by}
-use Rattle.owner_partition.specs.Phases.{phase_instances}
+use Rattle.owner_partition.specs.Phases.{visit_instances}
 use Rattle.sync_plan.specs.Conflicts.{last_value}
 use Rattle.sync_plan.specs.Own.{Own, own_cell, own_loop, own_of}
 use Rattle.sync_plan.specs.declared.plan.Plan.{Plan}
@@ -60,7 +60,7 @@ last_owner tree plan v = option_map (phase_owner tree plan v) (last_loops (param
 
 -- an instance of a phase that a processor owns stores to this cell of those that all share
 abbrev pub has_stored : Tree → Plan → Visit → ℕ → ℕ → Bool
-has_stored tree plan v c p = list_any (λ (i : Instance). phase_owner tree plan v i.loops == p && stores_to (store_of tree i) c) (phase_instances (param_values tree) v)
+has_stored tree plan v c p = list_any (λ (i : Instance). phase_owner tree plan v i.loops == p && stores_to (store_of tree i) c) (visit_instances (param_values tree) v)
 
 -- of a private scalar
 abbrev pub keeping_of : Tree → Plan → Visit → ℕ → List Job

@@ -6,7 +6,7 @@ use Rattle.nest_tree.specs.Tree.{Tree, param_values}
 use Rattle.nest_model.specs.Instances.{Instance}
 use Rattle.nest_model.specs.Memory.{assigned_value, line_of}
 use Rattle.nest_model.specs.Visits.{Visit}
-use Rattle.owner_partition.specs.Phases.{Execution, phase_instances, phases}
+use Rattle.owner_partition.specs.Phases.{Execution, visit_instances, phases}
 use Rattle.sync_plan.specs.Boundaries.{is_barrier, kind_before}
 use Rattle.sync_plan.specs.Conflicts.{loads_under, owner_under, store_under}
 use Rattle.sync_plan.specs.declared.plan.Plan.{Plan}
@@ -56,7 +56,7 @@ abbrev pub moments_of : Part → List Moment
 moments_of part = part.front ++ map job part.jobs
 
 abbrev pub instance_jobs : Tree → Plan → ℕ → Visit → List Job
-instance_jobs tree plan e v = map (λ (i : Instance). job_under tree plan (record { phase = e; place = v.place; instance = i })) (phase_instances (param_values tree) v)
+instance_jobs tree plan e v = map (λ (i : Instance). job_under tree plan (record { phase = e; place = v.place; instance = i })) (visit_instances (param_values tree) v)
 
 abbrev pub part_of : Style → Tree → Plan → ℕ → ℕ → Visit → Part
 part_of style tree plan e passed v = record {

@@ -15,7 +15,7 @@ use Rattle.own_cells.specs.OwnCells.{AreFew}
 use Rattle.spmd_model.specs.Deeds.{Deed, loading, storing, printing, instance_deeds}
 use Rattle.spmd_model.specs.MachineDeeds.{own_deeds}
 use Rattle.fork_join.specs.SeenDeeds.{phase_deed, shared_for}
-use Rattle.fork_join.proofs.SeenDeeds.{next_load, next_print, next_store, phase_instances}
+use Rattle.fork_join.proofs.SeenDeeds.{next_load, next_print, next_store, visit_instances}
 use Rattle.spmd_workers.specs.Walks.{is_instance_there}
 
 -- ---- an instance's cells are the program's
@@ -43,7 +43,7 @@ module _ (tree : Tree) (plan : Plan) (place p : ℕ) where
   there c = own_cell (own_of tree plan place) p c
 
   pub own_instance : (i : Instance) → AreFew tree (own_loop tree plan place) → is_instance_there tree i ≡ true → map (phase_deed tree plan place p) (own_deeds tree (own_of tree plan place) p i) ≡ instance_deeds tree i
-  own_instance i few all = alone (phase_deed tree plan place p) (own_deeds tree (own_of tree plan place) p i) (instance_deeds tree i) (phase_instances tree plan place p few (i ∷ []) [] (one_there tree i all))
+  own_instance i few all = alone (phase_deed tree plan place p) (own_deeds tree (own_of tree plan place) p i) (instance_deeds tree i) (visit_instances tree plan place p few (i ∷ []) [] (one_there tree i all))
 
   pub own_load : (c : ℕ) (d : Deed) → phase_deed tree plan place p d ≡ loading c → (d ≡ loading (there c)) × (c < cell_count tree)
   own_load c d same =

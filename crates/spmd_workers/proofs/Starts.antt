@@ -17,7 +17,7 @@ use Rattle.nest_model.specs.Ranges.{IsInRange, is_instance_inside}
 use Rattle.nest_model.specs.Visits.{Visit}
 use Rattle.owner_partition.specs.declared.anchor.Anchor.{Anchor}
 use Rattle.owner_partition.specs.Owners.{anchor_owner}
-use Rattle.owner_partition.specs.Phases.{phase_instances, phases}
+use Rattle.owner_partition.specs.Phases.{visit_instances, phases}
 use Rattle.sync_plan.specs.Fit.{IsFit}
 use Rattle.sync_plan.specs.Own.{own_cell, own_of}
 use Rattle.sync_plan.specs.Waits.{posts_at, waits_for}
@@ -79,9 +79,9 @@ module _ (tree : Tree) (plan : Plan) (formed : IsWellFormed tree) (fits : IsFit 
         | inr fails ↦ ap (λ b. list_all (is_instance_there tree) (cond b (i ∷ filter test is) (filter test is))) fails ∙ later
       ]
 
-  owned_there : (p : ℕ) (v : Visit) (o : Option Anchor) → list_all (is_instance_there tree) (phase_instances (param_values tree) v) ≡ true → list_all (is_instance_there tree) (owned_by tree o plan.workers p v) ≡ true
+  owned_there : (p : ℕ) (v : Visit) (o : Option Anchor) → list_all (is_instance_there tree) (visit_instances (param_values tree) v) ≡ true → list_all (is_instance_there tree) (owned_by tree o plan.workers p v) ≡ true
   owned_there p v None all = refl
-  owned_there p v (Some a) all = some_there (λ (i : Instance). anchor_owner a plan.workers i.loops (param_values tree) == p) (phase_instances (param_values tree) v) all
+  owned_there p v (Some a) all = some_there (λ (i : Instance). anchor_owner a plan.workers i.loops (param_values tree) == p) (visit_instances (param_values tree) v) all
 
   works_there : (is : List Instance) → list_all (is_instance_there tree) is ≡ true → list_all (is_counter_there tree) (map works is) ≡ true
   works_there [] all = refl
@@ -100,7 +100,7 @@ module _ (tree : Tree) (plan : Plan) (formed : IsWellFormed tree) (fits : IsFit 
   both_there : (xs ys : List CounterTurn) → list_all (is_counter_there tree) xs ≡ true → list_all (is_counter_there tree) ys ≡ true → list_all (is_counter_there tree) (xs ++ ys) ≡ true
   both_there xs ys first second = list_all-append (is_counter_there tree) xs ys ∙ and_from (list_all (is_counter_there tree) xs) (list_all (is_counter_there tree) ys) first second
 
-  phases_there : (p e : ℕ) (vs : List Visit) → ((k : ℕ) (v : Visit) → slice_get vs k ≡ Some v → list_all (is_instance_there tree) (phase_instances (param_values tree) v) ≡ true) → list_all (is_counter_there tree) (counter_turns tree plan p e vs) ≡ true
+  phases_there : (p e : ℕ) (vs : List Visit) → ((k : ℕ) (v : Visit) → slice_get vs k ≡ Some v → list_all (is_instance_there tree) (visit_instances (param_values tree) v) ≡ true) → list_all (is_counter_there tree) (counter_turns tree plan p e vs) ≡ true
   phases_there p e [] each = refl
   phases_there p e (v ∷ vs) each =
       let boundary = boundary_turns (e - 1) (posts_at tree plan p v.place v.loops) (waits_for tree plan p v.place v.loops) in
@@ -110,7 +110,7 @@ module _ (tree : Tree) (plan : Plan) (formed : IsWellFormed tree) (fits : IsFit 
       (phases_there p (suc e) vs (λ k u at. each (suc k) u at))
 
   pub turns_there : (p : ℕ) → list_all (is_counter_there tree) (counter_turns tree plan p 1 (phases tree plan.cut.marks)) ≡ true
-  turns_there p = phases_there p 1 (phases tree plan.cut.marks) (λ k v at. fine_there v (phase_instances (param_values tree) v) (all_fine tree plan k v formed fits ranges at))
+  turns_there p = phases_there p 1 (phases tree plan.cut.marks) (λ k v at. fine_there v (visit_instances (param_values tree) v) (all_fine tree plan k v formed fits ranges at))
 
 -- ---- room for what is printed
 

@@ -23,7 +23,7 @@ use Rattle.owner_partition.specs.declared.cut.Mark.{Mark}
 use Rattle.owner_partition.specs.Cuts.{privates_of}
 use Rattle.owner_partition.specs.Marks.{enters_outer}
 use Rattle.owner_partition.specs.Owners.{anchor_owner, dealt, owner_by}
-use Rattle.owner_partition.specs.Phases.{Execution, executions, executions_from, phase_instances, phases}
+use Rattle.owner_partition.specs.Phases.{Execution, executions, executions_from, visit_instances, phases}
 use Rattle.owner_partition.specs.Placement.{ends_among}
 use Rattle.owner_partition.proofs.Sites.{all_at}
 use Rattle.sync_plan.specs.declared.plan.Kind.{Kind}
@@ -49,7 +49,7 @@ pub record IsOf (params : List ℤ) (e : ℕ) (vs : List Visit) (x : Execution) 
   pub at : slice_get vs phase ≡ Some visit
   pub phase_is : x.phase ≡ e + phase
   pub place_is : x.place ≡ visit.place
-  pub is : slice_get (phase_instances params visit) index ≡ Some x.instance
+  pub is : slice_get (visit_instances params visit) index ≡ Some x.instance
 
 pub mapped : {X Y : Type 0} (f : X → Y) (xs : List X) (k : ℕ) (y : Y) → slice_get (map f xs) k ≡ Some y → (x : X) × (slice_get xs k ≡ Some x) × (f x ≡ y)
 mapped f [] k y e = let clash : None ≡ Some y = e in absurd (cc)
@@ -59,7 +59,7 @@ mapped f (x ∷ xs) (suc k) y e = mapped f xs k y e
 execution_of : (params : List ℤ) (e : ℕ) (vs : List Visit) (x : Execution) (n : ℕ) → slice_get (executions_from params e vs) n ≡ Some x → IsOf params e vs x n
 execution_of params e [] x n at = let clash : None ≡ Some x = at in absurd (cc)
 execution_of params e (v ∷ vs) x n at =
-    let is = phase_instances params v in
+    let is = visit_instances params v in
     let f : Instance → Execution = λ i. record { phase = e; place = v.place; instance = i } in
     let here = map f is in
     let later = executions_from params (suc e) vs in
@@ -85,7 +85,7 @@ execution_of params e (v ∷ vs) x n at =
 phases_rise : (params : List ℤ) (e : ℕ) (vs : List Visit) (x y : Execution) (j k : ℕ) → j < k → slice_get (executions_from params e vs) j ≡ Some x → slice_get (executions_from params e vs) k ≡ Some y → x.phase ≤ y.phase
 phases_rise params e [] x y j k lt at at' = let clash : None ≡ Some x = at in absurd (cc)
 phases_rise params e (v ∷ vs) x y j k lt at at' =
-    let is = phase_instances params v in
+    let is = visit_instances params v in
     let f : Instance → Execution = λ i. record { phase = e; place = v.place; instance = i } in
     let here = map f is in
     let later = executions_from params (suc e) vs in
@@ -155,8 +155,8 @@ phase_owner : Tree → Plan → Visit → Option Anchor → ℕ
 phase_owner tree plan v o = owner_by o plan.workers v.loops (param_values tree)
 
 one_owner : (tree : Tree) (plan : Plan) (v : Visit) → FitParts tree plan → All (λ m. is_doall m ≡ false) plan.cut.marks → IsThereFrom (param_values tree) (scope_of tree) 1 (stops_of (enters_outer plan.cut.marks) tree.items) (placed tree (enters_outer plan.cut.marks)) (ends_among (param_values tree) (enters_outer plan.cut.marks) no_ends tree.items) v →
-    (o : Option Anchor) → slice_get plan.anchors (v.place - 1) ≡ o → All (λ (i : Instance). owner_by o plan.workers i.loops (param_values tree) ≡ owner_by o plan.workers v.loops (param_values tree)) (phase_instances (param_values tree) v)
-one_owner tree plan v parts none f None at = All-weaker (λ (i : Instance). (k : ℕ) → k < f.there.number - 1 → get_or i.loops k (pos 0) ≡ get_or v.loops k (pos 0)) (λ (i : Instance). owner_by None plan.workers i.loops (param_values tree) ≡ owner_by None plan.workers v.loops (param_values tree)) (λ i agree. refl) (phase_instances (param_values tree) v) (agree_in (param_values tree) (scope_of tree) f.there.around f.there.number v.what v.first v.loops f.there.good f.there.low)
+    (o : Option Anchor) → slice_get plan.anchors (v.place - 1) ≡ o → All (λ (i : Instance). owner_by o plan.workers i.loops (param_values tree) ≡ owner_by o plan.workers v.loops (param_values tree)) (visit_instances (param_values tree) v)
+one_owner tree plan v parts none f None at = All-weaker (λ (i : Instance). (k : ℕ) → k < f.there.number - 1 → get_or i.loops k (pos 0) ≡ get_or v.loops k (pos 0)) (λ (i : Instance). owner_by None plan.workers i.loops (param_values tree) ≡ owner_by None plan.workers v.loops (param_values tree)) (λ i agree. refl) (visit_instances (param_values tree) v) (agree_in (param_values tree) (scope_of tree) f.there.around f.there.number v.what v.first v.loops f.there.good f.there.low)
 one_owner tree plan v parts none f (Some a) at =
     let t = f.there in
     let index : v.place - 1 ≡ f.k = omega (arith, f.place_is) in
@@ -165,7 +165,7 @@ one_owner tree plan v parts none f (Some a) at =
     let good' : is_good_anchor (length tree.params) t.around a ≡ true = sym (ap (λ l. is_good_anchor (length tree.params) l a) (no_doall plan.cut.marks v.what t.around none)) ∙ good in
     let names = (and_parts (names_only (length tree.params) t.around a.form) (has_places a.dist) good').0 in
     All-weaker (λ (i : Instance). (k : ℕ) → k < t.number - 1 → get_or i.loops k (pos 0) ≡ get_or v.loops k (pos 0)) (λ (i : Instance). anchor_owner a plan.workers i.loops (param_values tree) ≡ anchor_owner a plan.workers v.loops (param_values tree))
-    (λ i agree. ap (λ z. count_of (dealt a.dist plan.workers z)) (form_same (length tree.params) t.number t.around a.form (param_values tree) i.loops v.loops t.below names agree)) (phase_instances (param_values tree) v)
+    (λ i agree. ap (λ z. count_of (dealt a.dist plan.workers z)) (form_same (length tree.params) t.number t.around a.form (param_values tree) i.loops v.loops t.below names agree)) (visit_instances (param_values tree) v)
     (agree_in (param_values tree) (scope_of tree) t.around t.number v.what v.first v.loops t.good t.low)
 
 -- ---- a barrier is a hop between any two processors
@@ -202,10 +202,10 @@ barriers_chain tree plan formed fits barriers none j k x y lt at at' conflict ap
           let all = one_owner tree plan v parts none fy o refl in
           let own_x : owner_under tree plan x ≡ owner_by o plan.workers v.loops params =
           ap (λ p. owner_by (slice_get plan.anchors (p - 1)) plan.workers x.instance.loops params) (xo.place_is ∙ ap (λ (w : Visit). w.place) visit_same)
-          ∙ all_at (λ (i : Instance). owner_by o plan.workers i.loops params ≡ owner_by o plan.workers v.loops params) (phase_instances params v) xo.index x.instance all (ap (λ w. slice_get (phase_instances params w) xo.index) (sym visit_same) ∙ xo.is) in
+          ∙ all_at (λ (i : Instance). owner_by o plan.workers i.loops params ≡ owner_by o plan.workers v.loops params) (visit_instances params v) xo.index x.instance all (ap (λ w. slice_get (visit_instances params w) xo.index) (sym visit_same) ∙ xo.is) in
           let own_y : owner_under tree plan y ≡ owner_by o plan.workers v.loops params =
           ap (λ p. owner_by (slice_get plan.anchors (p - 1)) plan.workers y.instance.loops params) yo.place_is
-          ∙ all_at (λ (i : Instance). owner_by o plan.workers i.loops params ≡ owner_by o plan.workers v.loops params) (phase_instances params v) yo.index y.instance all yo.is in
+          ∙ all_at (λ (i : Instance). owner_by o plan.workers i.loops params ≡ owner_by o plan.workers v.loops params) (visit_instances params v) yo.index y.instance all yo.is in
           absurd (apart (own_x ∙ sym own_y))
       | inr other ↦
           let p = owner_under tree plan y in

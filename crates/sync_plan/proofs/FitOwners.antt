@@ -30,7 +30,7 @@ use Rattle.owner_partition.specs.declared.cut.Mark.{Mark}
 use Rattle.owner_partition.specs.declared.placement.Placement.{Placement}
 use Rattle.owner_partition.specs.Marks.{enters_outer}
 use Rattle.owner_partition.specs.Owners.{anchor_owner, dealt, owner_by, reaches}
-use Rattle.owner_partition.specs.Phases.{Execution, executions, executions_from, phase_instances, phases}
+use Rattle.owner_partition.specs.Phases.{Execution, executions, executions_from, visit_instances, phases}
 use Rattle.owner_partition.specs.Placement.{ends_among, misplaced, misplaced_at, misplaced_within, names_empty, phase_ends, unplaced}
 use Rattle.owner_partition.proofs.Sites.{All-flat_map}
 use Rattle.sync_plan.specs.declared.plan.Plan.{Plan}
@@ -174,12 +174,12 @@ good_each constants marks (t ∷ text) (b ∷ anchors) (suc k) s a good at at' =
 -- ---- the instances of a visit
 
 -- what holds of each execution of phases holds of each instance of each
-executions_all : (P : Execution → Type 0) (params : List ℤ) (e : ℕ) (vs : List Visit) → All (λ v. (n : ℕ) → All (λ i. P (record { phase = n; place = v.place; instance = i })) (phase_instances params v)) vs → All P (executions_from params e vs)
+executions_all : (P : Execution → Type 0) (params : List ℤ) (e : ℕ) (vs : List Visit) → All (λ v. (n : ℕ) → All (λ i. P (record { phase = n; place = v.place; instance = i })) (visit_instances params v)) vs → All P (executions_from params e vs)
 executions_all P params e [] all = All-nil P
 executions_all P params e (v ∷ vs) all =
-    let Q = λ (v : Visit). (n : ℕ) → All (λ i. P (record { phase = n; place = v.place; instance = i })) (phase_instances params v) in
-    All-append P (map (λ i. record { phase = e; place = v.place; instance = i }) (phase_instances params v)) (executions_from params (suc e) vs)
-    (All-map P (λ i. record { phase = e; place = v.place; instance = i }) (phase_instances params v) (All-head Q v vs all e)) (executions_all P params (suc e) vs (All-tail Q v vs all))
+    let Q = λ (v : Visit). (n : ℕ) → All (λ i. P (record { phase = n; place = v.place; instance = i })) (visit_instances params v) in
+    All-append P (map (λ i. record { phase = e; place = v.place; instance = i }) (visit_instances params v)) (executions_from params (suc e) vs)
+    (All-map P (λ i. record { phase = e; place = v.place; instance = i }) (visit_instances params v) (All-head Q v vs all e)) (executions_all P params (suc e) vs (All-tail Q v vs all))
 
 -- the loops that an anchor may name have numbers up to the loop's own
 own_low : (marks : List Mark) (number : ℕ) (around : List ℕ) (s : Statement) → AreBelow number around → ((head : Head) (body : Statements) → s ≡ do_loop head body → head.number ≡ number) → All (λ k. k ≤ number) (own_loops marks s around)
@@ -244,12 +244,12 @@ owners_below tree plan formed fits =
     let parts = fit_parts tree plan fits in
     executions_all (λ x. owner_under tree plan x < plan.workers) params 1 (phases tree plan.cut.marks)
     (All-weaker (IsThereFrom params (scope_of tree) 1 (stops_of (enters_outer plan.cut.marks) tree.items) (placed tree (enters_outer plan.cut.marks)) (ends_among params (enters_outer plan.cut.marks) no_ends tree.items))
-    (λ (v : Visit). (n : ℕ) → All (λ i. owner_under tree plan (record { phase = n; place = v.place; instance = i }) < plan.workers) (phase_instances params v))
+    (λ (v : Visit). (n : ℕ) → All (λ i. owner_under tree plan (record { phase = n; place = v.place; instance = i }) < plan.workers) (visit_instances params v))
     (λ v f n. by_anchor parts v f (slice_get plan.anchors (v.place - 1)) refl) (phases tree plan.cut.marks) (all_there tree (enters_outer plan.cut.marks) formed))
   where
     by_anchor : FitParts tree plan → (v : Visit) → IsThereFrom (param_values tree) (scope_of tree) 1 (stops_of (enters_outer plan.cut.marks) tree.items) (placed tree (enters_outer plan.cut.marks)) (ends_among (param_values tree) (enters_outer plan.cut.marks) no_ends tree.items) v →
-        (o : Option Anchor) → slice_get plan.anchors (v.place - 1) ≡ o → All (λ i. owner_by o plan.workers i.loops (param_values tree) < plan.workers) (phase_instances (param_values tree) v)
-    by_anchor parts v f None at = All-from_get_or (λ (i : Instance). 0 < plan.workers) (phase_instances (param_values tree) v) (record { statement = 0; what = print (record { items = []; line = 0 }); loops = [] }) (λ i lt. omega (arith, parts.some))
+        (o : Option Anchor) → slice_get plan.anchors (v.place - 1) ≡ o → All (λ i. owner_by o plan.workers i.loops (param_values tree) < plan.workers) (visit_instances (param_values tree) v)
+    by_anchor parts v f None at = All-from_get_or (λ (i : Instance). 0 < plan.workers) (visit_instances (param_values tree) v) (record { statement = 0; what = print (record { items = []; line = 0 }); loops = [] }) (λ i lt. omega (arith, parts.some))
     by_anchor parts v f (Some a) at =
         let t = f.there in
         let index : v.place - 1 ≡ f.k = omega (arith, f.place_is) in
@@ -354,12 +354,12 @@ printers tree plan formed fits =
     let parts = fit_parts tree plan fits in
     executions_all (λ (x : Execution). (p : Printing) → x.instance.what ≡ print p → owner_under tree plan x ≡ 0) params 1 (phases tree plan.cut.marks)
     (All-weaker (IsThereFrom params (scope_of tree) 1 (stops_of (enters_outer plan.cut.marks) tree.items) (placed tree (enters_outer plan.cut.marks)) (ends_among params (enters_outer plan.cut.marks) no_ends tree.items))
-    (λ (v : Visit). (n : ℕ) → All (λ (i : Instance). (p : Printing) → i.what ≡ print p → owner_under tree plan (record { phase = n; place = v.place; instance = i }) ≡ 0) (phase_instances params v))
+    (λ (v : Visit). (n : ℕ) → All (λ (i : Instance). (p : Printing) → i.what ≡ print p → owner_under tree plan (record { phase = n; place = v.place; instance = i }) ≡ 0) (visit_instances params v))
     (λ v f n. by_print parts v f (slice_get plan.anchors (v.place - 1)) refl) (phases tree plan.cut.marks) (all_there tree (enters_outer plan.cut.marks) formed))
   where
     by_print : FitParts tree plan → (v : Visit) → IsThereFrom (param_values tree) (scope_of tree) 1 (stops_of (enters_outer plan.cut.marks) tree.items) (placed tree (enters_outer plan.cut.marks)) (ends_among (param_values tree) (enters_outer plan.cut.marks) no_ends tree.items) v →
-        (o : Option Anchor) → slice_get plan.anchors (v.place - 1) ≡ o → All (PrintsAtZero tree plan o) (phase_instances (param_values tree) v)
-    by_print parts v f None at = All-from_get_or (PrintsAtZero tree plan None) (phase_instances (param_values tree) v) (record { statement = 0; what = print (record { items = []; line = 0 }); loops = [] }) (λ i lt p e. refl)
+        (o : Option Anchor) → slice_get plan.anchors (v.place - 1) ≡ o → All (PrintsAtZero tree plan o) (visit_instances (param_values tree) v)
+    by_print parts v f None at = All-from_get_or (PrintsAtZero tree plan None) (visit_instances (param_values tree) v) (record { statement = 0; what = print (record { items = []; line = 0 }); loops = [] }) (λ i lt p e. refl)
     by_print parts v f (Some a) at =
         let t = f.there in
         let index : v.place - 1 ≡ f.k = omega (arith, f.place_is) in
@@ -367,6 +367,6 @@ printers tree plan formed fits =
         elim (cases_Bool (has_print v.what)) [
           | inl prints ↦
               let zero_form = print_anchor 1 plan.cut.marks (static_phases tree plan.cut.marks) plan.anchors f.k (record { what = v.what; around = t.around }) a parts.prints t.at anchor_at prints in
-              All-from_get_or (PrintsAtZero tree plan (Some a)) (phase_instances (param_values tree) v) (record { statement = 0; what = print (record { items = []; line = 0 }); loops = [] }) (λ i lt p e. zero_owner a plan.workers _ (param_values tree) zero_form)
-          | inr silent ↦ All-weaker (λ (i : Instance). (p : Printing) → i.what ≡ print p → ⊥) (PrintsAtZero tree plan (Some a)) (λ i never p e. absurd (never p e)) (phase_instances (param_values tree) v) (prints_in (param_values tree) v.what v.first v.loops silent)
+              All-from_get_or (PrintsAtZero tree plan (Some a)) (visit_instances (param_values tree) v) (record { statement = 0; what = print (record { items = []; line = 0 }); loops = [] }) (λ i lt p e. zero_owner a plan.workers _ (param_values tree) zero_form)
+          | inr silent ↦ All-weaker (λ (i : Instance). (p : Printing) → i.what ≡ print p → ⊥) (PrintsAtZero tree plan (Some a)) (λ i never p e. absurd (never p e)) (visit_instances (param_values tree) v) (prints_in (param_values tree) v.what v.first v.loops silent)
         ]

@@ -10,3 +10,4 @@ pub mod Shape
 pub mod Fit
 pub mod Barriers
 pub mod Boundaries
+pub mod Numbers

@@ -2,7 +2,7 @@
 use Rattle.std.specs.Prelude.{ℤ, pos, negsuc, ◌-ℤ◌, int_le, [], ◌∷◌, map, Some, None, ◌≡◌, refl}
 use Rattle.nest_tree.specs.declared.tree.Access.{Access}
 use Rattle.nest_tree.specs.declared.tree.Spread.TheVariants.{Block}
-use Rattle.nest_tree.specs.Form.{Form}
+use Rattle.nest_tree.specs.Form.{Form, fixed}
 use Rattle.nest_tree.specs.Tree.{Expression, number, loop_value, load, assign, Head, Statement, do_loop, work, done, next, Tree}
 use Rattle.nest_model.specs.Instances.{head_trips}
 use Rattle.owner_partition.specs.declared.cut.Mark.TheVariants.{Doall}
@@ -11,9 +11,6 @@ use Rattle.sync_plan.specs.declared.plan.Conditions.TheVariants.{Values}
 use Rattle.sync_plan.specs.declared.plan.Plan.{Plan}
 use Rattle.sync_plan.specs.declared.plan.Version.TheVariants.{Five}
 use Rattle.sync_plan.specs.Conflicts.{is_value, last_value, seen_loads, seen_store}
-
-abbrev fixed : ℤ → Form
-fixed z = record { constant = z; loops = []; params = [] }
 
 abbrev own_value : Form
 own_value = record { constant = pos 0; loops = (1, pos 1) ∷ []; params = [] }

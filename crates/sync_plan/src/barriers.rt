@@ -8,7 +8,7 @@ ghost use Rattle.sync_plan.specs.declared.plan.Kind.TheVariants.{Barrier};
 use crate::plan::{Conditions, Kind, Plan, Version};
 use farkas_cert::Certificate;
 use nest_tree::Listed;
-use owner_partition::{Anchor, Cut, Mark, Privates};
+use owner_partition::{Anchor, Cut, Privates};
 use std::alloc::{AllocError, Global};
 
 /// The plan of this cut, these anchors, workers and certificates, with as many kinds as anchors,

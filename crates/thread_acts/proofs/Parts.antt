@@ -16,7 +16,7 @@ use Rattle.owner_partition.specs.Cuts.{Cutting, privates_of}
 use Rattle.owner_partition.specs.Marks.{is_sum_mark, mark_of}
 use Rattle.owner_partition.specs.OwnInstances.{own_values}
 use Rattle.owner_partition.specs.Owners.{anchor_owner, own_instances, owner_by}
-use Rattle.owner_partition.specs.Phases.{phase_instances}
+use Rattle.owner_partition.specs.Phases.{visit_instances}
 use Rattle.owner_partition.proofs.Dealt.{own_of_loop, own_of_work}
 use Rattle.sync_plan.specs.Conflicts.{last_value}
 use Rattle.sync_plan.specs.Own.{Own, OwnLoop, is_cell_of, own_loop_of, place_in}
@@ -64,7 +64,7 @@ module _ (table : Table) (tree : Tree) (plan : Plan) (p : ℕ) (turnings : AreTu
 
   -- what a processor does in a phase, by its anchor and the own scalars of its loop
   abbrev stored_by : Option Anchor → Visit → ℕ → Bool
-  stored_by o v c = list_any (λ (i : Instance). owner_by o plan.workers i.loops params == p && stores_to (store_of tree i) c) (phase_instances params v)
+  stored_by o v c = list_any (λ (i : Instance). owner_by o plan.workers i.loops params == p && stores_to (store_of tree i) c) (visit_instances params v)
 
   abbrev pub part_by : Option Anchor → OwnLoop → Visit → List Deed
   part_by o l v =
@@ -114,7 +114,7 @@ module _ (table : Table) (tree : Tree) (plan : Plan) (p : ℕ) (turnings : AreTu
         let m2 = form_value head.m2 loops params in
         let stored : (c : ℕ) → has_assigned t share loops c ≡ stored_by (Some a) v c = λ c.
         same_stores c (instances_found t share loops) (own_instances params a plan.workers p v) same
-        ∙ any_filter (λ (i : Instance). anchor_owner a plan.workers i.loops params == p) (λ i. stores_to (store_of tree i) c) (phase_instances params v) in
+        ∙ any_filter (λ (i : Instance). anchor_owner a plan.workers i.loops params == p) (λ i. stores_to (store_of tree i) c) (visit_instances params v) in
         ap₂ (λ (x y : List Deed). x ++ y) (privates_right t a (own_from l) head loops (last_value (head_trips params head loops)) l.privates (has_trips m1 m2 head.step) refl (last_is m1 m2 head.step moves (has_trips m1 m2 head.step) refl)
         ∙ same_kept (own_from l) (option_map (λ ls. anchor_owner a plan.workers ls params) (option_map (with_loop loops head.number) (last_value (head_trips params head loops)))) (option_map (λ ls. anchor_owner a plan.workers ls params) (last_loops params (do_loop head body) first loops)) l.privates
         (λ u among. ap (option_map (λ ls. anchor_owner a plan.workers ls params)) (sym (runs u among))))

@@ -20,7 +20,7 @@ use Rattle.nest_walk.proofs.Steps.{small_wrapped}
 use Rattle.nest_walk.proofs.Walks.{walkable}
 use Rattle.owner_partition.specs.Marks.{enters_outer}
 use Rattle.owner_partition.specs.Owners.{anchor_owner, owner_by}
-use Rattle.owner_partition.specs.Phases.{phase_instances, phases}
+use Rattle.owner_partition.specs.Phases.{visit_instances, phases}
 use Rattle.owner_partition.proofs.Sites.{All-flat_map, all_at, all_of}
 use Rattle.sync_plan.specs.Conflicts.{last_value}
 use Rattle.sync_plan.specs.Fit.{IsFit}
@@ -210,9 +210,9 @@ module _ (tree : Tree) (plan : Plan) (p k : ℕ) (v : Visit) (head : Head) (body
   keeps_is : keeps ≡ list_any (λ n. list_any mine (inside (trip n))) (range_with_len 0 count)
   keeps_is =
       let a = anchored tree plan formed fits k v at in
-      let all : phase_instances params v ≡ flat_map inside (head_trips params head v.loops) = ap (λ (s : Statement). instances_of params s v.first v.loops) what in
-      ap (λ o. list_any ends (owned_by tree o plan.workers p v)) a.1 ∙ any_filter ends (λ (i : Instance). anchor_owner a.0 plan.workers i.loops params == p) (phase_instances params v)
-      ∙ ap (λ o. list_any (λ (i : Instance). (owner_by o plan.workers i.loops params == p) && ends i) (phase_instances params v)) (sym a.1)
+      let all : visit_instances params v ≡ flat_map inside (head_trips params head v.loops) = ap (λ (s : Statement). instances_of params s v.first v.loops) what in
+      ap (λ o. list_any ends (owned_by tree o plan.workers p v)) a.1 ∙ any_filter ends (λ (i : Instance). anchor_owner a.0 plan.workers i.loops params == p) (visit_instances params v)
+      ∙ ap (λ o. list_any (λ (i : Instance). (owner_by o plan.workers i.loops params == p) && ends i) (visit_instances params v)) (sym a.1)
       ∙ ap (list_any mine) all ∙ any_flat mine inside (head_trips params head v.loops) ∙ any_map (λ x. list_any mine (inside x)) trip (range_with_len 0 count)
 
   split_off : (n : ℕ) → range_with_len 0 (suc n) ≡ range_with_len 0 n ++ n ∷ []

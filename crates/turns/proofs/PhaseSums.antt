@@ -13,7 +13,7 @@ use Rattle.nest_model.specs.Visits.{Visit}
 use Rattle.owner_partition.specs.declared.anchor.Anchor.{Anchor}
 use Rattle.owner_partition.specs.declared.cut.Mark.{Mark}
 use Rattle.owner_partition.specs.Owners.{anchor_owner}
-use Rattle.owner_partition.specs.Phases.{Execution, executions_from, phase_instances, phases}
+use Rattle.owner_partition.specs.Phases.{Execution, executions_from, visit_instances, phases}
 use Rattle.owner_partition.proofs.Instances.{all_executed}
 use Rattle.sync_plan.specs.declared.plan.Plan.{Plan}
 use Rattle.sync_plan.specs.Waits.{posts_at, waits_for}
@@ -22,17 +22,17 @@ use Rattle.instance_runs.specs.Rooms.{instance_room, longest_output}
 use Rattle.turns.specs.CounterTurns.{counter_room, awaits, begins, boundary_turns, is_counter_inside, phase_turns, posts, counter_turns, works}
 
 -- the phases' instances are the program's
-executed_phases : (params : List ℤ) (e : ℕ) (vs : List Visit) → map (λ (x : Execution). x.instance) (executions_from params e vs) ≡ flat_map (phase_instances params) vs
+executed_phases : (params : List ℤ) (e : ℕ) (vs : List Visit) → map (λ (x : Execution). x.instance) (executions_from params e vs) ≡ flat_map (visit_instances params) vs
 executed_phases params e [] = refl
 executed_phases params e (v ∷ vs) =
-    map-append (λ (x : Execution). x.instance) (map (λ (i : Instance). record { phase = e; place = v.place; instance = i }) (phase_instances params v)) (executions_from params (suc e) vs)
-    ∙ ap (λ l. l ++ map (λ (x : Execution). x.instance) (executions_from params (suc e) vs)) (own e v.place (phase_instances params v)) ∙ ap (λ l. phase_instances params v ++ l) (executed_phases params (suc e) vs)
+    map-append (λ (x : Execution). x.instance) (map (λ (i : Instance). record { phase = e; place = v.place; instance = i }) (visit_instances params v)) (executions_from params (suc e) vs)
+    ∙ ap (λ l. l ++ map (λ (x : Execution). x.instance) (executions_from params (suc e) vs)) (own e v.place (visit_instances params v)) ∙ ap (λ l. visit_instances params v ++ l) (executed_phases params (suc e) vs)
   where
     own : (n place : ℕ) (is : List Instance) → map (λ (x : Execution). x.instance) (map (λ (i : Instance). record { phase = n; place = place; instance = i }) is) ≡ is
     own n place [] = refl
     own n place (i ∷ is) = ap (λ l. i ∷ l) (own n place is)
 
-pub phases_whole : (tree : Tree) (marks : List Mark) → flat_map (phase_instances (param_values tree)) (phases tree marks) ≡ instances tree
+pub phases_whole : (tree : Tree) (marks : List Mark) → flat_map (visit_instances (param_values tree)) (phases tree marks) ≡ instances tree
 phases_whole tree marks = sym (executed_phases (param_values tree) 1 (phases tree marks)) ∙ all_executed tree marks
 
 -- ---- sums over processors
@@ -89,12 +89,12 @@ module _ (tree : Tree) (plan : Plan) where
   abbrev own : ℕ → Visit → List Instance
   own p v = owned_by tree (slice_get plan.anchors (v.place - 1)) plan.workers p v
 
-  own_rooms : (v : Visit) → sum_by (λ p. sum_by (instance_room tree) (own p v)) (range_with_len 0 plan.workers) ≤ sum_by (instance_room tree) (phase_instances (param_values tree) v)
+  own_rooms : (v : Visit) → sum_by (λ p. sum_by (instance_room tree) (own p v)) (range_with_len 0 plan.workers) ≤ sum_by (instance_room tree) (visit_instances (param_values tree) v)
   own_rooms v = by (slice_get plan.anchors (v.place - 1))
     where
-      by : (a : Option Anchor) → sum_by (λ p. sum_by (instance_room tree) (owned_by tree a plan.workers p v)) (range_with_len 0 plan.workers) ≤ sum_by (instance_room tree) (phase_instances (param_values tree) v)
+      by : (a : Option Anchor) → sum_by (λ p. sum_by (instance_room tree) (owned_by tree a plan.workers p v)) (range_with_len 0 plan.workers) ≤ sum_by (instance_room tree) (visit_instances (param_values tree) v)
       by None = omega (arith, no_sum (λ p. sum_by (instance_room tree) (owned_by tree None plan.workers p v)) 0 plan.workers (λ p le. refl))
-      by (Some a) = own_sums (instance_room tree) (λ (i : Instance). anchor_owner a plan.workers i.loops (param_values tree)) (phase_instances (param_values tree) v) plan.workers
+      by (Some a) = own_sums (instance_room tree) (λ (i : Instance). anchor_owner a plan.workers i.loops (param_values tree)) (visit_instances (param_values tree) v) plan.workers
 
   -- ---- what turns print
 
@@ -122,7 +122,7 @@ module _ (tree : Tree) (plan : Plan) where
         works_room (own p v),
       )
 
-  all_rooms : (e : ℕ) (vs : List Visit) → sum_by (λ p. sum_by (counter_room tree) (counter_turns tree plan p e vs)) (range_with_len 0 plan.workers) ≤ sum_by (instance_room tree) (flat_map (phase_instances (param_values tree)) vs)
+  all_rooms : (e : ℕ) (vs : List Visit) → sum_by (λ p. sum_by (counter_room tree) (counter_turns tree plan p e vs)) (range_with_len 0 plan.workers) ≤ sum_by (instance_room tree) (flat_map (visit_instances (param_values tree)) vs)
   all_rooms e [] = omega (arith, no_sum (λ p. sum_by (counter_room tree) (counter_turns tree plan p e [])) 0 plan.workers (λ p le. refl))
   all_rooms e (v ∷ vs) =
       omega (
@@ -130,7 +130,7 @@ module _ (tree : Tree) (plan : Plan) where
         sums_add (λ p. sum_by (instance_room tree) (own p v)) (λ p. sum_by (counter_room tree) (counter_turns tree plan p (suc e) vs)) (λ p. sum_by (counter_room tree) (counter_turns tree plan p e (v ∷ vs))) 0 plan.workers (λ p. turns_room p e v vs),
         own_rooms v,
         all_rooms (suc e) vs,
-        sum_by-append (instance_room tree) (phase_instances (param_values tree) v) (flat_map (phase_instances (param_values tree)) vs),
+        sum_by-append (instance_room tree) (visit_instances (param_values tree) v) (flat_map (visit_instances (param_values tree)) vs),
       )
 
   pub rooms_below : sum_by (λ p. sum_by (counter_room tree) (counter_turns tree plan p 1 (phases tree plan.cut.marks))) (range_with_len 0 plan.workers) ≤ longest_output tree
@@ -156,18 +156,18 @@ module _ (tree : Tree) (plan : Plan) where
         | inr fails ↦ ap (λ b. list_all (is_instance_inside tree) (cond b (i ∷ filter test is) (filter test is))) fails ∙ later
       ]
 
-  own_inside : (p : ℕ) (v : Visit) → list_all (is_instance_inside tree) (phase_instances (param_values tree) v) ≡ true → list_all (is_instance_inside tree) (own p v) ≡ true
+  own_inside : (p : ℕ) (v : Visit) → list_all (is_instance_inside tree) (visit_instances (param_values tree) v) ≡ true → list_all (is_instance_inside tree) (own p v) ≡ true
   own_inside p v h = by (slice_get plan.anchors (v.place - 1))
     where
       by : (a : Option Anchor) → list_all (is_instance_inside tree) (owned_by tree a plan.workers p v) ≡ true
       by None = refl
-      by (Some a) = some_inside (λ (i : Instance). anchor_owner a plan.workers i.loops (param_values tree) == p) (phase_instances (param_values tree) v) h
+      by (Some a) = some_inside (λ (i : Instance). anchor_owner a plan.workers i.loops (param_values tree) == p) (visit_instances (param_values tree) v) h
 
-  turns_inside : (p e : ℕ) (vs : List Visit) → list_all (is_instance_inside tree) (flat_map (phase_instances (param_values tree)) vs) ≡ true → list_all (is_counter_inside tree) (counter_turns tree plan p e vs) ≡ true
+  turns_inside : (p e : ℕ) (vs : List Visit) → list_all (is_instance_inside tree) (flat_map (visit_instances (param_values tree)) vs) ≡ true → list_all (is_counter_inside tree) (counter_turns tree plan p e vs) ≡ true
   turns_inside p e [] h = refl
   turns_inside p e (v ∷ vs) h =
-      let here = phase_instances (param_values tree) v in
-      let later = flat_map (phase_instances (param_values tree)) vs in
+      let here = visit_instances (param_values tree) v in
+      let later = flat_map (visit_instances (param_values tree)) vs in
       let parts = and_parts (list_all (is_instance_inside tree) here) (list_all (is_instance_inside tree) later) (sym (list_all-append (is_instance_inside tree) here later) ∙ h) in
       let does = posts_at tree plan p v.place v.loops in
       let qs = waits_for tree plan p v.place v.loops in

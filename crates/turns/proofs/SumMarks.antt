@@ -18,7 +18,7 @@ use Rattle.nest_model.specs.Ranges.{IsInRange}
 use Rattle.nest_model.specs.Visits.{Visit}
 use Rattle.own_scalars.specs.OwnScalars.{is_of, stores}
 use Rattle.owner_partition.specs.Owners.{anchor_owner, owner_by}
-use Rattle.owner_partition.specs.Phases.{phase_instances, phases}
+use Rattle.owner_partition.specs.Phases.{visit_instances, phases}
 use Rattle.sync_plan.specs.Fit.{IsFit}
 use Rattle.sync_plan.specs.Own.{OwnLoop, own_loop}
 use Rattle.sync_plan.specs.declared.plan.Plan.{Plan}
@@ -122,7 +122,7 @@ module _ (tree : Tree) (plan : Plan) (k : ℕ) (v : Visit) (formed : IsWellForme
       let a = anchored tree plan formed fits k v at in
       let test : Instance → Bool = marks tree plan p v.place few (16 + j) in
       ap (λ o. list_any test (owned_by tree o plan.workers p v)) a.1
-      ∙ any_filter test (λ (i : Instance). anchor_owner a.0 plan.workers i.loops params == p) (phase_instances params v)
-      ∙ any_same (IsFineIn tree plan v) (λ i. (anchor_owner a.0 plan.workers i.loops params == p) && test i) (λ i. (phase_owner tree plan v i.loops == p) && stores_to (store_of tree i) (first_cell tree u)) (phase_instances params v)
+      ∙ any_filter test (λ (i : Instance). anchor_owner a.0 plan.workers i.loops params == p) (visit_instances params v)
+      ∙ any_same (IsFineIn tree plan v) (λ i. (anchor_owner a.0 plan.workers i.loops params == p) && test i) (λ i. (phase_owner tree plan v i.loops == p) && stores_to (store_of tree i) (first_cell tree u)) (visit_instances params v)
       (λ i fine. ap (λ b. (anchor_owner a.0 plan.workers i.loops params == p) && b) (marks_sum j u at_j i fine) ∙ sym (ap (λ o. (owner_by o plan.workers i.loops params == p) && stores_to (store_of tree i) (first_cell tree u)) a.1))
       (all_fine tree plan k v formed fits ranges at)

@@ -20,7 +20,7 @@ use crate::pending::{first_pending, mark_first, mark_place};
 use nest_tree::{Item, Nest, Program};
 use nest_walk::{Path, Stop, Strip};
 use own_cells::{OWN_PLACES, OwnCells, is_final};
-use owner_partition::{Mark, Privates, StaticPhase};
+use owner_partition::{Privates, StaticPhase};
 use spmd_model::Style;
 use spmd_model::rounds::{awaited_in_round, rounds_of};
 use sync_plan::Plan;

@@ -17,7 +17,7 @@ use Rattle.fork_join.specs.SeenDeeds.{FindsOwn, phase_deed}
 use Rattle.fork_join.specs.Workers.{IsCounterThere, IsOverlay, IsWalking, Runs, turns_behind}
 use Rattle.fork_join.specs.declared.cursor.Cursor.{Cursor}
 use Rattle.fork_join.proofs.OwnSeeing.{few_here}
-use Rattle.fork_join.proofs.SeenDeeds.{phase_instances}
+use Rattle.fork_join.proofs.SeenDeeds.{visit_instances}
 use Rattle.fork_join.proofs.Walking.{cut_off, insides, its_phase, its_printed, its_registers, its_within, keeps, less_room, no_work_behind, runs_do, seen_exactly, theirs, went_on}
 use Rattle.fork_join.proofs.walk.repeat_next.Goals as goal
 
@@ -57,7 +57,7 @@ repeat-requires-clause-left c =
     let cells = theirs tree front (cursor_left c.strip.new.self) (subst (All (IsCounterThere tree)) (sym r.turns ∙ st.left) r.there) in
     let f = phase_deed tree plan place p in (
       map f (doing later),
-      ap (λ (z : Cursor). map (phase_deed tree plan (turns_place z.turns) p) (drop o.done.done (all_deeds tree plan p))) c.of-phase.ensures ∙ ap (map f) gone ∙ phase_instances tree plan place p few front (doing later) cells.0
+      ap (λ (z : Cursor). map (phase_deed tree plan (turns_place z.turns) p) (drop o.done.done (all_deeds tree plan p))) c.of-phase.ensures ∙ ap (map f) gone ∙ visit_instances tree plan place p few front (doing later) cells.0
           ∙ ap (λ t. flat_map (instance_deeds t) front ++ map f (doing later)) (sym r.executor),
     )
 
@@ -91,7 +91,7 @@ returns-in-Some-clause-walks c =
     let few = few_here tree plan p _ o.done.done c.args.turns.now c.args.executor.now r in
     let f = phase_deed tree plan place p in
     let turns : c.repeat.new.deeds.turns.now.value ≡ c.args.turns.now = ap (λ k. k.1.0) went.kept ∙ c.of-phase.ensures in
-    let was = ap (map f) gone ∙ phase_instances tree plan place p few front (doing later) cells.0 in
+    let was = ap (map f) gone ∙ visit_instances tree plan place p few front (doing later) cells.0 in
     let seen : Cursor → List Deed = λ z. map (phase_deed (tree_of new.program.now) new.plan.now (turns_place z.turns) new.processor) (drop new.done.done (all_deeds (tree_of new.program.now) new.plan.now new.processor)) in
     let now = sym (ap (λ (z : Cursor). map (phase_deed tree plan (turns_place z.turns) p) (drop o.done.done (all_deeds tree plan p))) c.of-phase.ensures) ∙ went.left
     ∙ ap (λ t. flat_map (instance_deeds t) front ++ seen c.repeat.new.deeds.turns.now.value) r.executor

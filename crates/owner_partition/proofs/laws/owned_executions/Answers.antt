@@ -3,7 +3,7 @@ use Rattle.std.specs.List.{filter, slice_get}
 use Rattle.nest_tree.specs.Tree.{Tree, param_values}
 use Rattle.nest_model.specs.Instances.{Instance}
 use Rattle.owner_partition.specs.Owners.{anchor_owner, owner_by, owner_of}
-use Rattle.owner_partition.specs.Phases.{Execution, phase_instances}
+use Rattle.owner_partition.specs.Phases.{Execution, visit_instances}
 use Rattle.owner_partition.specs.declared.anchor.Anchor.{Anchor}
 use Rattle.owner_partition.proofs.laws.owned_executions.Goals as goal
 
@@ -25,4 +25,4 @@ module _ (tree : Tree) (anchors : List Anchor) (workers p e place : ℕ) (a : An
       ∙ (elim (owned i) as (λ b. (if b then in_phase i ∷ map in_phase (filter owned is) else map in_phase (filter owned is)) ≡ map in_phase (if b then i ∷ filter owned is else filter owned is)) [ true ↦ refl | false ↦ refl ])
 
 pub returns : goal.returns
-returns c = λ tree anchors workers p e v a at. all_same tree anchors workers p e v.place a at (phase_instances (param_values tree) v)
+returns c = λ tree anchors workers p e v a at. all_same tree anchors workers p e v.place a at (visit_instances (param_values tree) v)

@@ -14,7 +14,6 @@ use Rattle.nest_walk.specs.Paths.{Round}
 use Rattle.nest_walk.specs.RoundsOf.{rounds_of}
 use Rattle.nest_walk.specs.Walkable.{is_small_at}
 use Rattle.nest_walk.proofs.WalkMoves.{by_number-length}
-use Rattle.owner_partition.specs.OwnInstances.{coefficient_of}
 use Rattle.owner_partition.specs.OwnTrips.{own_numbers, strided, trip_owner}
 use Rattle.owner_partition.proofs.Trips.{own_values_are, stride_below, sum_fits, trips_few}
 use Rattle.owner_partition.proofs.own.own_values.Goals as goal

@@ -21,7 +21,7 @@ use Rattle.nest_walk.proofs.Alone.{reached}
 use Rattle.nest_rows.specs.Nested.{IsNestedInstance, nested_works}
 use Rattle.nest_rows.proofs.Nesting.{instance_nested}
 use Rattle.range_check.specs.Outside.{instances_outside, is_small_instance}
-use Rattle.range_check.specs.Stops.{instances_there, stop_instances}
+use Rattle.range_check.specs.Stops.{instances_there, visit_instances}
 use Rattle.range_check.proofs.Lists.{none-instances}
 use Rattle.range_check.proofs.Sound.{instances_small}
 use Rattle.range_check.proofs.StopInstances.{stops_same}
@@ -31,7 +31,7 @@ use Rattle.range_check.proofs.check.check_others.Goals as goal
 pub loop-stop-init : goal.loop-stop-init
 loop-stop-init c =
     let tree = tree_of c.args.program.now in
-    let all = ap (flat_map (stop_instances (param_values tree))) c.new-stops.ensures.visits ∙ stops_same tree (enters_but _) in
+    let all = ap (flat_map (visit_instances (param_values tree))) c.new-stops.ensures.visits ∙ stops_same tree (enters_but _) in
     record {
       walked = c.new-stops.ensures.program;
       small = ap (list_all (is_small_instance (param_values tree))) all ∙ instances_small tree c.args.program.now.formed c.args.program.now.limits;
@@ -74,7 +74,7 @@ check_instances-requires-clause-small c =
     let rounds = rounds_in c.next.new.self in
     let walked = next.program ∙ c.loop-stop.invariant.walked in
     let here = instances_there tree rounds c.in-Some.stop in
-    let rest = flat_map (stop_instances params) (left_of c.next.new.self) in
+    let rest = flat_map (visit_instances params) (left_of c.next.new.self) in
     let small = list_all (is_small_instance params) in
     let first = stop_first tree (tree_in c.next.new.self) rounds c.in-Some.stop (left_of c.loop-stop.stops) (left_of c.next.new.self) walked next.stop in
     let parts = and_parts (small here) (small rest) (sym (ap small first ∙ list_all-append (is_small_instance params) here rest) ∙ c.loop-stop.invariant.small) in
@@ -89,7 +89,7 @@ check_instances-requires-clause-nested c =
     let rounds = rounds_in c.next.new.self in
     let walked = next.program ∙ c.loop-stop.invariant.walked in
     let here = instances_there tree rounds c.in-Some.stop in
-    let rest = flat_map (stop_instances params) (left_of c.next.new.self) in
+    let rest = flat_map (visit_instances params) (left_of c.next.new.self) in
     let nested = IsNestedInstance params (nested_works tree) in
     let first = stop_first tree (tree_in c.next.new.self) rounds c.in-Some.stop (left_of c.loop-stop.stops) (left_of c.next.new.self) walked next.stop in
     let parts = all_split nested here rest (subst (AllByRecursion nested) first c.loop-stop.invariant.nested) in
@@ -106,7 +106,7 @@ loop-stop-preserved c =
     let rounds = rounds_in c.next.new.self in
     let walked = next.program ∙ c.loop-stop.invariant.walked in
     let here = instances_there tree rounds stop in
-    let rest = flat_map (stop_instances params) (left_of c.next.new.self) in
+    let rest = flat_map (visit_instances params) (left_of c.next.new.self) in
     let small = list_all (is_small_instance params) in
     let nested = IsNestedInstance params (nested_works tree) in
     let first = stop_first tree (tree_in c.next.new.self) rounds stop (left_of c.loop-stop.stops) (left_of c.next.new.self) walked next.stop in
@@ -133,7 +133,7 @@ loop-stop-preserved-in-Continue-1 c =
     let rounds = rounds_in c.next.new.self in
     let walked = next.program ∙ c.loop-stop.invariant.walked in
     let here = instances_there tree rounds stop in
-    let rest = flat_map (stop_instances params) (left_of c.next.new.self) in
+    let rest = flat_map (visit_instances params) (left_of c.next.new.self) in
     let small = list_all (is_small_instance params) in
     let nested = IsNestedInstance params (nested_works tree) in
     let first = stop_first tree (tree_in c.next.new.self) rounds stop (left_of c.loop-stop.stops) (left_of c.next.new.self) walked next.stop in
@@ -158,7 +158,7 @@ returns-in_err-check_instances-clause-first c =
     let rounds = rounds_in c.next.new.self in
     let walked = next.program ∙ c.loop-stop.invariant.walked in
     let here = instances_there tree rounds stop in
-    let rest = flat_map (stop_instances params) (left_of c.next.new.self) in
+    let rest = flat_map (visit_instances params) (left_of c.next.new.self) in
     let first = stop_first tree (tree_in c.next.new.self) rounds stop (left_of c.loop-stop.stops) (left_of c.next.new.self) walked next.stop in
     let same = c.restart.ensures.instances ∙ ap (λ t. instances_there t (rounds_of c.path.result.now) stop) c.loop-stop.invariant.own ∙ ap (λ rs. instances_there tree rs stop) c.path.ensures in
     let gone : c.from_residual.result ≡ Err c.in_err-check_instances.field-0.0 = search rules in
@@ -173,7 +173,7 @@ returns-in_err-check_instances-clause-inside c =
 pub returns-clause-first : goal.returns-clause-first
 returns-clause-first c =
     let tree = tree_of c.args.program.now in
-    sym (ap (λ vs. instances_outside tree (flat_map (stop_instances (param_values tree)) vs)) c.in_default.ensures.stop) ∙ c.loop-stop.invariant.first
+    sym (ap (λ vs. instances_outside tree (flat_map (visit_instances (param_values tree)) vs)) c.in_default.ensures.stop) ∙ c.loop-stop.invariant.first
 
 pub returns-clause-inside : goal.returns-clause-inside
 returns-clause-inside c =

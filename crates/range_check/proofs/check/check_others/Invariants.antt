@@ -6,13 +6,13 @@ use Rattle.nest_walk.specs.Cursors.{left_of, tree_in}
 use Rattle.nest_walk.specs.InstancesLeft.{instances_tree}
 use Rattle.nest_rows.specs.Nested.{IsNestedInstance, nested_works}
 use Rattle.range_check.specs.Outside.{instances_outside, is_small_instance, outside_of}
-use Rattle.range_check.specs.Stops.{stop_instances}
+use Rattle.range_check.specs.Stops.{visit_instances}
 use Rattle.range_check.proofs.check.check_others.Given as goal
 
 abbrev pub invariant-loop-stop : goal.invariant-loop-stop
 invariant-loop-stop l =
     let tree = tree_of l.program in
-    let left = flat_map (stop_instances (param_values tree)) (left_of l.stops) in
+    let left = flat_map (visit_instances (param_values tree)) (left_of l.stops) in
     record {
       walked : tree_in l.stops ≡ tree;
       small : IsTrue (list_all (is_small_instance (param_values tree)) left);
