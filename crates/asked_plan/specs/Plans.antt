@@ -43,7 +43,8 @@ IsPlanFor Barrier workers tree bytes plan = IsBarrierPlan tree workers plan
 IsPlanFor Given workers tree bytes plan = IsTaken (Some workers) tree bytes plan
 
 -- The bytes begin with a source whose program is this one, all of whose subscripts are in range, and this is the plan that is asked for.
-pub record IsPlanned (workers : ℕ) (choice : PlanChoice) (bytes : List ℕ) (settings : List (Name × ℤ)) (tree : Tree) (plan : Plan) : Type 0 where
+pub record IsPlanned (workers : ℕ) (choice : PlanChoice) (bytes : List ℕ)
+    (settings : List (Name × ℤ)) (tree : Tree) (plan : Plan) : Type 0 where
   pub clear : sources.IsClear (stands_alone choice) bytes
   pub source : HasProgramWith settings bytes tree
   pub inside : IsInRange tree
@@ -52,7 +53,8 @@ pub record IsPlanned (workers : ℕ) (choice : PlanChoice) (bytes : List ℕ) (s
 -- the first reason against a plan: other workers than are asked for, or else its first failure for the program
 abbrev pub first_reason : Option ℕ → Tree → Plan → Option PlanRefusal
 first_reason None tree plan = first_failure tree plan
-first_reason (Some workers) tree plan = if plan.workers == workers then first_failure tree plan else Some (Shape 1)
+first_reason (Some workers) tree plan =
+    if plan.workers == workers then first_failure tree plan else Some (Shape 1)
 
 -- Bytes are refused as a plan that is to be accepted for a program, with the workers that are asked for: their first line that no plan's text has, or else the first reason against the plan whose text they are. Memory may run out in place of each.
 abbrev pub IsRefused : Option ℕ → Tree → List ℕ → InputError → Type 0
@@ -65,18 +67,26 @@ IsPlanErrorFor Barrier workers tree bytes error = error ≡ NoMemory
 IsPlanErrorFor Given workers tree bytes error = IsRefused (Some workers) tree bytes error
 
 -- There is no plan that is asked for: for the source, or else for the plan.
-pub data IsError (workers : ℕ) (choice : PlanChoice) (bytes : List ℕ) (settings : List (Name × ℤ)) (error : InputError) : Type 0 where
-  source : (is : sources.IsError (stands_alone choice) bytes settings error) → IsError workers choice bytes settings error
-  plan : (tree : Tree) (clear : sources.IsClear (stands_alone choice) bytes) (has : HasProgramWith settings bytes tree) (inside : IsInRange tree) (is : IsPlanErrorFor choice workers tree (behind_end bytes) error) → IsError workers choice bytes settings error
+pub data IsError (workers : ℕ) (choice : PlanChoice) (bytes : List ℕ) (settings : List (Name × ℤ))
+    (error : InputError) : Type 0 where
+  source : (is : sources.IsError (stands_alone choice) bytes settings error)
+      → IsError workers choice bytes settings error
+  plan : (tree : Tree) (clear : sources.IsClear (stands_alone choice) bytes)
+      (has : HasProgramWith settings bytes tree) (inside : IsInRange tree)
+      (is : IsPlanErrorFor choice workers tree (behind_end bytes) error)
+      → IsError workers choice bytes settings error
 
 -- The bytes begin with a source whose program is this one, all of whose subscripts are in range, and what stands behind END is the text of this plan, which fits the program.
-pub record IsBehind (bytes : List ℕ) (settings : List (Name × ℤ)) (tree : Tree) (plan : Plan) : Type 0 where
+pub record IsBehind (bytes : List ℕ) (settings : List (Name × ℤ)) (tree : Tree) (plan : Plan) :
+    Type 0 where
   pub source : HasProgramWith settings bytes tree
   pub inside : IsInRange tree
   pub text : IsTextOf plan (behind_end bytes)
   pub fits : IsFit tree plan
 
 -- There is no such plan: for the source, or else for what stands behind it.
-pub data IsErrorBehind (bytes : List ℕ) (settings : List (Name × ℤ)) (error : InputError) : Type 0 where
+pub data IsErrorBehind (bytes : List ℕ) (settings : List (Name × ℤ)) (error : InputError) :
+    Type 0 where
   source : (is : sources.IsError false bytes settings error) → IsErrorBehind bytes settings error
-  plan : (tree : Tree) (has : HasProgramWith settings bytes tree) (inside : IsInRange tree) (is : IsPlanError tree (behind_end bytes) error) → IsErrorBehind bytes settings error
+  plan : (tree : Tree) (has : HasProgramWith settings bytes tree) (inside : IsInRange tree)
+      (is : IsPlanError tree (behind_end bytes) error) → IsErrorBehind bytes settings error

@@ -54,7 +54,8 @@ variables_after name (word ∷ words) = variables_with name (within 1000 (natura
 -- the head whose words behind `system` these are, from word 2 on: a visible name, variables and rows
 abbrev pub head_of : List (List ℕ) → Result Head LineFault
 head_of [] = Err (faults.Word 2 wanted.Name)
-head_of (name ∷ words) = if list_all is_visible name then variables_after name words else Err (faults.Word 2 wanted.Name)
+head_of (name ∷ words) =
+    if list_all is_visible name then variables_after name words else Err (faults.Word 2 wanted.Name)
 
 abbrev pub bound_with : ℕ → Option ℤ → List (List ℕ) → Result ℤ LineFault
 bound_with n None words = Err (faults.Word n wanted.Bound)
@@ -74,12 +75,16 @@ with_coef n (Some a) (Ok row) = Ok (record { coefs = a ∷ row.coefs; bound = ro
 -- the row of these words, the first of which has the number: its coefficients, `<=` and its bound
 abbrev pub row_from : ℕ → List (List ℕ) → Result Row LineFault
 row_from n [] = Err (faults.Word n wanted.Coefficient)
-row_from n (word ∷ words) = if bytes_eq word (codes "<=") then fault_or (λ b. record { coefs = []; bound = b }) (bound_from (n + 1) words) else with_coef n (entry_of word) (row_from (n + 1) words)
+row_from n (word ∷ words) = if bytes_eq word (codes "<=")
+    then fault_or (λ b. record { coefs = []; bound = b }) (bound_from (n + 1) words)
+    else with_coef n (entry_of word) (row_from (n + 1) words)
 
 -- what these words say
 abbrev pub said_by : List (List ℕ) → Result Line LineFault
 said_by [] = Ok variants.Nothing
-said_by (word ∷ words) = if bytes_eq word (codes "system") then fault_or variants.Head (head_of words) else fault_or variants.Row (row_from 1 (word ∷ words))
+said_by (word ∷ words) = if bytes_eq word (codes "system")
+    then fault_or variants.Head (head_of words)
+    else fault_or variants.Row (row_from 1 (word ∷ words))
 
 -- the first byte is a `#`
 abbrev pub is_comment : List ℕ → Bool
@@ -90,10 +95,12 @@ is_comment (b ∷ line) = b == 35
 abbrev pub line_of : List ℕ → Result Line LineFault
 line_of line = if is_comment line then Ok variants.Nothing else said_by (words_of line)
 
-pub line_of-head : line_of (codes "system wave 2 10\r\n") ≡ Ok (variants.Head (record { name = codes "wave"; variables = 2; rows = 10 }))
+pub line_of-head : line_of (codes "system wave 2 10\r\n")
+    ≡ Ok (variants.Head (record { name = codes "wave"; variables = 2; rows = 10 }))
 line_of-head = refl
 
-pub line_of-row : line_of (codes "  2 -1 <= -7\n") ≡ Ok (variants.Row (record { coefs = pos 2 ∷ negsuc 0 ∷ []; bound = negsuc 6 }))
+pub line_of-row : line_of (codes "  2 -1 <= -7\n")
+    ≡ Ok (variants.Row (record { coefs = pos 2 ∷ negsuc 0 ∷ []; bound = negsuc 6 }))
 line_of-row = refl
 
 pub line_of-comment : line_of (codes "# rows\n") ≡ Ok variants.Nothing

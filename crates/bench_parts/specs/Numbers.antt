@@ -21,7 +21,9 @@ within limit (Some n) = if nat_le n limit then Some n else None
 -- the whole number of a word of decimal digits, with a minus sign in front or not, if it is at most 2 ^ 126 in size
 abbrev pub entry_of : List ℕ → Option ℤ
 entry_of [] = None
-entry_of (c ∷ cs) = if c == 45 then option_map (λ n. neg_ℤ (pos n)) (within (2 ^ 126) (natural_of cs)) else option_map pos (within (2 ^ 126) (natural_of (c ∷ cs)))
+entry_of (c ∷ cs) = if c == 45
+    then option_map (λ n. neg_ℤ (pos n)) (within (2 ^ 126) (natural_of cs))
+    else option_map pos (within (2 ^ 126) (natural_of (c ∷ cs)))
 
 pub entry_of-minus : entry_of (codes "-120") ≡ Some (negsuc 119)
 entry_of-minus = refl
@@ -37,7 +39,8 @@ pub entry_of-sign : entry_of (codes "-") ≡ None
 entry_of-sign = refl
 
 -- 2 ^ 126 is taken, and one more is not
-pub entry_of-limit : entry_of (codes "-85070591730234615865843651857942052864") ≡ Some (neg_ℤ (pos (2 ^ 126)))
+pub entry_of-limit : entry_of (codes "-85070591730234615865843651857942052864")
+    ≡ Some (neg_ℤ (pos (2 ^ 126)))
 entry_of-limit = refl
 
 pub entry_of-past : entry_of (codes "85070591730234615865843651857942052865") ≡ None

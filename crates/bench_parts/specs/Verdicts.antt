@@ -21,9 +21,11 @@ verdict_on (answers.Work level pairs) = Work level pairs
 
 -- what a verdict says of the system: no whole solution, by a good certificate of so many steps; or by which answer elimination in this order keeps it
 abbrev pub IsSound : Inequalities → List ℕ → Verdict → Type 0
-IsSound system order (Infeasible steps) = HasNoWholeSolution system × ((certificate : Certificate) × IsGood system certificate × (length certificate.steps ≡ steps))
+IsSound system order (Infeasible steps) = HasNoWholeSolution system
+    × ((certificate : Certificate) × IsGood system certificate × (length certificate.steps ≡ steps))
 IsSound system order Open = IsKept system order answers.Open
-IsSound system order (Wide level) = (upper : Row) × (lower : Row) × IsKept system order (answers.Wide level upper lower)
+IsSound system order (Wide level) =
+    (upper : Row) × (lower : Row) × IsKept system order (answers.Wide level upper lower)
 IsSound system order (Many level count) = IsKept system order (answers.Many level count)
 IsSound system order (Work level pairs) = IsKept system order (answers.Work level pairs)
 

@@ -35,22 +35,33 @@ pub data Rank : Type 0 where
 mutual
   pub data Reads : Rank → List ℕ → CExpression → Type 0 where
     is_constant : (n : ℕ) → n < 2 ^ 63 → Reads postfix (decimal n) (constant n)
-    is_identifier : {name : List ℕ} → IsTrue (is_variable name) → Reads postfix name (identifier name)
-    in_parentheses : {text : List ℕ} {a : CExpression} → Reads sum text a → Reads postfix (codes "(" ++ text ++ codes ")") a
-    is_element : {array text : List ℕ} {a : CExpression} → IsTrue (is_name array) → Reads sum text a → Reads postfix (array ++ codes "[" ++ text ++ codes "]") (element array a)
-    is_call : {function text : List ℕ} {arguments : CArguments} → IsTrue (is_name function) → ReadsAll text arguments → Reads postfix (function ++ codes "(" ++ text ++ codes ")") (call function arguments)
+    is_identifier : {name : List ℕ} → IsTrue (is_variable name)
+        → Reads postfix name (identifier name)
+    in_parentheses : {text : List ℕ} {a : CExpression} → Reads sum text a
+        → Reads postfix (codes "(" ++ text ++ codes ")") a
+    is_element : {array text : List ℕ} {a : CExpression} → IsTrue (is_name array) → Reads sum text a
+        → Reads postfix (array ++ codes "[" ++ text ++ codes "]") (element array a)
+    is_call : {function text : List ℕ} {arguments : CArguments} → IsTrue (is_name function)
+        → ReadsAll text arguments → Reads postfix (function ++ codes "(" ++ text ++ codes ")")
+        (call function arguments)
     is_postfix : {text : List ℕ} {a : CExpression} → Reads postfix text a → Reads unary text a
-    is_minus : {text : List ℕ} {a : CExpression} → Reads postfix text a → Reads unary (codes "-" ++ text) (minus a)
-    is_cast : {text : List ℕ} {a : CExpression} → Reads unary text a → Reads unary (codes "(number)" ++ text) (as_number a)
+    is_minus : {text : List ℕ} {a : CExpression} → Reads postfix text a
+        → Reads unary (codes "-" ++ text) (minus a)
+    is_cast : {text : List ℕ} {a : CExpression} → Reads unary text a
+        → Reads unary (codes "(number)" ++ text) (as_number a)
     is_unary : {text : List ℕ} {a : CExpression} → Reads unary text a → Reads product text a
-    is_product : {text more : List ℕ} {a b : CExpression} → Reads product text a → Reads unary more b → Reads product (text ++ codes "*" ++ more) (times a b)
+    is_product : {text more : List ℕ} {a b : CExpression} → Reads product text a
+        → Reads unary more b → Reads product (text ++ codes "*" ++ more) (times a b)
     is_term : {text : List ℕ} {a : CExpression} → Reads product text a → Reads sum text a
-    is_sum : {text more : List ℕ} {a b : CExpression} → Reads sum text a → Reads product more b → Reads sum (text ++ codes " + " ++ more) (plus a b)
-    is_difference : {text more : List ℕ} {a b : CExpression} → Reads sum text a → Reads product more b → Reads sum (text ++ codes " - " ++ more) (less a b)
+    is_sum : {text more : List ℕ} {a b : CExpression} → Reads sum text a → Reads product more b
+        → Reads sum (text ++ codes " + " ++ more) (plus a b)
+    is_difference : {text more : List ℕ} {a b : CExpression} → Reads sum text a
+        → Reads product more b → Reads sum (text ++ codes " - " ++ more) (less a b)
 
   pub data ReadsAll : List ℕ → CArguments → Type 0 where
     is_only : {text : List ℕ} {a : CExpression} → Reads sum text a → ReadsAll text (only a)
-    is_first : {text more : List ℕ} {a : CExpression} {rest : CArguments} → Reads sum text a → ReadsAll more rest → ReadsAll (text ++ codes ", " ++ more) (first_of a rest)
+    is_first : {text more : List ℕ} {a : CExpression} {rest : CArguments} → Reads sum text a
+        → ReadsAll more rest → ReadsAll (text ++ codes ", " ++ more) (first_of a rest)
 
 -- comparisons
 abbrev pub sign_of : Compare → List ℕ

@@ -6,7 +6,8 @@ use Rattle.c_expressions.specs.CExpressions.{CExpression, constant, identifier, 
 -- a number as it is written, and as a word
 abbrev pub literal_of : ℤ → CExpression
 literal_of (pos n) = constant n
-literal_of (negsuc n) = if n == 9223372036854775807 then identifier (codes "INT64_MIN") else minus (constant (suc n))
+literal_of (negsuc n) =
+    if n == 9223372036854775807 then identifier (codes "INT64_MIN") else minus (constant (suc n))
 
 abbrev pub word_of : CExpression → CExpression
 word_of a = call (codes "W") (only a)

@@ -46,7 +46,8 @@ fresh = record { sums = None; product = None; prefixes = [] }
 
 abbrev pub atom : List ℕ → CExpression
 atom [] = constant 0
-atom (b ∷ bytes) = if is_letter b then identifier (b ∷ bytes) else constant (digits_value 10 (b ∷ bytes))
+atom (b ∷ bytes) =
+    if is_letter b then identifier (b ∷ bytes) else constant (digits_value 10 (b ∷ bytes))
 
 abbrev pub value_of : Current → CExpression
 value_of nothing = constant 0
@@ -84,9 +85,16 @@ extended (whole a) b = whole a
 
 -- a bracket is opened, behind a word or not
 abbrev pub opened : List (Bracket × Level) → Level → Current → State
-opened outer level nothing = record { outer = (round, level) ∷ outer; level = fresh; current = nothing; mode = plain }
-opened outer level (word bytes) = record { outer = (called bytes [], level) ∷ outer; level = fresh; current = nothing; mode = plain }
-opened outer level (whole a) = record { outer = outer; level = level; current = whole a; mode = plain }
+opened outer level nothing =
+    record { outer = (round, level) ∷ outer; level = fresh; current = nothing; mode = plain }
+opened outer level (word bytes) = record {
+  outer = (called bytes [], level) ∷ outer;
+  level = fresh;
+  current = nothing;
+  mode = plain;
+}
+opened outer level (whole a) =
+    record { outer = outer; level = level; current = whole a; mode = plain }
 
 abbrev pub word_in : Current → List ℕ
 word_in nothing = []
@@ -101,14 +109,28 @@ is_type a = false
 abbrev pub closed : List (Bracket × Level) → CExpression → State
 closed [] a = record { outer = []; level = fresh; current = whole a; mode = plain }
 closed ((round, level) ∷ outer) a =
-    if is_type a then record { outer = outer; level = record level { prefixes = taken_back ∷ level.prefixes }; current = nothing; mode = plain }
+    if is_type a
+    then record {
+      outer = outer;
+      level = record level
+          { prefixes = taken_back ∷ level.prefixes };
+      current = nothing;
+      mode = plain;
+    }
     else record { outer = outer; level = level; current = whole a; mode = plain }
-closed ((called function arguments, level) ∷ outer) a = record { outer = outer; level = level; current = whole (call function (arguments_of arguments a)); mode = plain }
-closed ((at array, level) ∷ outer) a = record { outer = outer; level = level; current = whole (element array a); mode = plain }
+closed ((called function arguments, level) ∷ outer) a = record {
+  outer = outer;
+  level = level;
+  current = whole (call function (arguments_of arguments a));
+  mode = plain;
+}
+closed ((at array, level) ∷ outer) a =
+    record { outer = outer; level = level; current = whole (element array a); mode = plain }
 
 abbrev pub with_argument : List (Bracket × Level) → CExpression → List (Bracket × Level)
 with_argument [] a = []
-with_argument ((called function arguments, level) ∷ outer) a = (called function (arguments ++ a ∷ []), level) ∷ outer
+with_argument ((called function arguments, level) ∷ outer) a =
+    (called function (arguments ++ a ∷ []), level) ∷ outer
 with_argument ((round, level) ∷ outer) a = (round, level) ∷ outer
 with_argument ((at array, level) ∷ outer) a = (at array, level) ∷ outer
 
@@ -125,7 +147,14 @@ pub data Class : Type 0 where
 
 abbrev pub other_class : ℕ → Class
 other_class b =
-    if b == 40 then opening else if b == 41 then closing else if b == 91 then bracket else if b == 93 then closing
+    if b == 40
+    then opening
+    else if b == 41
+    then closing
+    else if b == 91
+    then bracket
+    else if b == 93
+    then closing
     else if b == 42 then star else if b == 45 then dash else if b == 44 then separator else space
 
 abbrev pub class_of : ℕ → Class
@@ -135,16 +164,53 @@ abbrev pub anywhere : Class → State → ℕ → State
 anywhere of_word s b = record s { current = extended s.current b }
 anywhere opening s b = opened s.outer s.level s.current
 anywhere closing s b = closed s.outer (sum_of s.level s.current)
-anywhere bracket s b = record { outer = (at (word_in s.current), s.level) ∷ s.outer; level = fresh; current = nothing; mode = plain }
-anywhere star s b = record { outer = s.outer; level = record { sums = s.level.sums; product = Some (product_of s.level s.current); prefixes = [] }; current = nothing; mode = plain }
-anywhere dash s b = record { outer = s.outer; level = record { sums = s.level.sums; product = s.level.product; prefixes = sign ∷ s.level.prefixes }; current = s.current; mode = plain }
-anywhere separator s b = record { outer = with_argument s.outer (sum_of s.level s.current); level = fresh; current = nothing; mode = comma }
+anywhere bracket s b = record {
+  outer = (at (word_in s.current), s.level) ∷ s.outer;
+  level = fresh;
+  current = nothing;
+  mode = plain;
+}
+anywhere star s b = record {
+  outer = s.outer;
+  level = record {
+    sums = s.level.sums;
+    product = Some (product_of s.level s.current);
+    prefixes = [];
+  };
+  current = nothing;
+  mode = plain;
+}
+anywhere dash s b = record {
+  outer = s.outer;
+  level = record {
+    sums = s.level.sums;
+    product = s.level.product;
+    prefixes = sign ∷ s.level.prefixes;
+  };
+  current = s.current;
+  mode = plain;
+}
+anywhere separator s b = record {
+  outer = with_argument s.outer (sum_of s.level s.current);
+  level = fresh;
+  current = nothing;
+  mode = comma;
+}
 anywhere space s b = record s { mode = blank }
 
 abbrev pub step_in : Mode → State → ℕ → State
 step_in plain s b = anywhere (class_of b) s b
 step_in blank s b = record s { mode = signed (b == 43) }
-step_in (signed is_sum) s b = record { outer = s.outer; level = record { sums = Some (sum_of s.level s.current, is_sum); product = None; prefixes = [] }; current = nothing; mode = plain }
+step_in (signed is_sum) s b = record {
+  outer = s.outer;
+  level = record {
+    sums = Some (sum_of s.level s.current, is_sum);
+    product = None;
+    prefixes = [];
+  };
+  current = nothing;
+  mode = plain;
+}
 step_in comma s b = record s { mode = plain }
 
 abbrev pub run : List ℕ → State → State

@@ -39,7 +39,8 @@ pub record IsPlain (s : Sum) : Type 0 where
 -- a sum has more by what this says: in words always, and exactly as long as it is exact
 pub record Adds (old new : Sum) (more : Values → ℤ) : Type 0 where
   pub words : (v : Values) → wrapped (total v new) ≡ wrapped (total v old +ℤ more v)
-  pub exact : IsTrue new.is_exact → IsTrue old.is_exact × ((v : Values) → total v new ≡ total v old +ℤ more v)
+  pub exact : IsTrue new.is_exact → IsTrue old.is_exact
+      × ((v : Values) → total v new ≡ total v old +ℤ more v)
 
 -- a sum is what this says
 pub record SumsUp (s : Sum) (all : Values → ℤ) : Type 0 where
@@ -52,7 +53,8 @@ AreNear v = (t : Term) → unsigned_abs (v (term_name t)) ≤ 2 ^ 32
 
 -- an expression comes to what this says, where that fits in 64 bits, and no step on the way overflows
 pub record ComesTo (a : CExpression) (all : Values → ℤ) : Type 0 where
-  pub value : (v : Values) → v (codes "INT64_MIN") ≡ negsuc 9223372036854775807 → FitsSigned w64 (all v) → number_at v a ≡ all v
+  pub value : (v : Values) → v (codes "INT64_MIN") ≡ negsuc 9223372036854775807
+      → FitsSigned w64 (all v) → number_at v a ≡ all v
   pub narrow : (v : Values) → AreNear v → StaysNarrow v a
 
 -- bytes are appended that read as such an expression
@@ -78,7 +80,8 @@ abbrev pub place_at : List ℤ → ℤ → List Form → List (ℤ × ℤ) → V
 place_at params stride [] bounds v = pos 0
 place_at params stride (f ∷ subscripts) [] v = pos 0
 place_at params stride (f ∷ subscripts) (b ∷ bounds) v =
-    stride *ℤ (form_at params f v -ℤ b.0) +ℤ place_at params (wrapped (stride *ℤ wrapped (b.1 -ℤ b.0 +ℤ pos 1))) subscripts bounds v
+    stride *ℤ (form_at params f v -ℤ b.0) +ℤ place_at params
+    (wrapped (stride *ℤ wrapped (b.1 -ℤ b.0 +ℤ pos 1))) subscripts bounds v
 
 -- bytes are appended that read as an expression of what a sum is
 pub record AppendsSum (s : Sum) (old new : List ℕ) : Type 0 where
@@ -111,15 +114,19 @@ pub record AppendsPart (old new : List ℕ) (part : Values → ℤ) (room : ℕ)
 
 -- nothing is appended, or that
 abbrev pub Begun : List ℕ → List ℕ → Bool → (Values → ℤ) → ℕ → Type 0
-Begun old now is_first part room = MatchBool is_first ((now ≡ old) × ((v : Values) → part v ≡ pos 0)) (AppendsPart old now part room)
+Begun old now is_first part room = MatchBool is_first
+    ((now ≡ old) × ((v : Values) → part v ≡ pos 0)) (AppendsPart old now part room)
 
 -- behind what there is, that much more stands
 abbrev pub GoesOn : List ℕ → Bool → List ℕ → Bool → (Values → ℤ) → ℕ → Type 0
 GoesOn before was_first now is_first more size =
-    (old : List ℕ) (part : Values → ℤ) (room : ℕ) → room + size < 2 ^ 62 → Begun old before was_first part room → Begun old now is_first (λ v. part v +ℤ more v) (room + size)
+    (old : List ℕ) (part : Values → ℤ) (room : ℕ) → room + size < 2 ^ 62
+    → Begun old before was_first part room
+    → Begun old now is_first (λ v. part v +ℤ more v) (room + size)
 
 -- of words, what there is and what is behind it
 pub record AppendsWords (old new : List ℕ) (part : Values → ℤ) : Type 0 where
   pub expression : CExpression
   pub appends : Appends old new sum expression
-  pub value : (v : Values) → v (codes "INT64_MIN") ≡ negsuc 9223372036854775807 → number_at v expression ≡ part v
+  pub value : (v : Values) → v (codes "INT64_MIN") ≡ negsuc 9223372036854775807
+      → number_at v expression ≡ part v

@@ -23,8 +23,11 @@ scalar_cell tree privates n = if is_own privates n then own_cell tree n else sha
 
 -- a scalar stands as its cell; an element as its array with its place there
 pub data SaysAccess (tree : Tree) (privates : List ℕ) : Access → CExpression → Type 0 where
-  says_scalar : {access : Access} → access.subscripts ≡ [] → SaysAccess tree privates access (identifier (scalar_cell tree privates access.variable))
-  says_element : {access : Access} {place : CExpression} → 0 < length access.subscripts → ComesTo place (place_at (param_values tree) (pos 1) access.subscripts (bounds_of tree access.variable)) →
+  says_scalar : {access : Access} → access.subscripts ≡ []
+      → SaysAccess tree privates access (identifier (scalar_cell tree privates access.variable))
+  says_element : {access : Access} {place : CExpression} → 0 < length access.subscripts
+      → ComesTo place (place_at (param_values tree) (pos 1) access.subscripts
+      (bounds_of tree access.variable)) →
       SaysAccess tree privates access (element (shared_cell tree access.variable) place)
 
 -- one argument more, at the end
@@ -35,22 +38,37 @@ with_last (one_more first rest) e = one_more first (with_last rest e)
 mutual
   pub data Says (tree : Tree) (privates : List ℕ) : Expression → CExpression → Type 0 where
     says_number : {z : ℤ} → Says tree privates (number z) (word_of (literal_of z))
-    says_param : {n : ℕ} → Says tree privates (param n) (word_of (literal_of (numbered (param_values tree) n)))
+    says_param : {n : ℕ} → Says tree privates (param n)
+        (word_of (literal_of (numbered (param_values tree) n)))
     says_loop : {n : ℕ} → Says tree privates (loop_value n) (word_of (identifier (loop_name n)))
-    says_load : {access : Access} {a : CExpression} → SaysAccess tree privates access a → Says tree privates (load access) a
-    says_neg : {e : Expression} {a : CExpression} → Says tree privates e a → Says tree privates (neg e) (less (constant 0) a)
-    says_add : {e f : Expression} {a b : CExpression} → Says tree privates e a → Says tree privates f b → Says tree privates (add e f) (plus a b)
-    says_sub : {e f : Expression} {a b : CExpression} → Says tree privates e a → Says tree privates f b → Says tree privates (sub e f) (less a b)
-    says_mul : {e f : Expression} {a b : CExpression} → Says tree privates e a → Says tree privates f b → Says tree privates (mul e f) (times a b)
-    says_div : {e : Expression} {divisor : ℤ} {a : CExpression} → Says tree privates e a → Says tree privates (div e divisor) (call (codes "over") (first_of a (only (literal_of divisor))))
-    says_least : {arguments : Expressions} {a : CExpression} → Chooses tree privates (codes "least") arguments a → Says tree privates (least_of arguments) a
-    says_greatest : {arguments : Expressions} {a : CExpression} → Chooses tree privates (codes "greatest") arguments a → Says tree privates (greatest_of arguments) a
+    says_load : {access : Access} {a : CExpression} → SaysAccess tree privates access a
+        → Says tree privates (load access) a
+    says_neg : {e : Expression} {a : CExpression} → Says tree privates e a
+        → Says tree privates (neg e) (less (constant 0) a)
+    says_add : {e f : Expression} {a b : CExpression} → Says tree privates e a
+        → Says tree privates f b → Says tree privates (add e f) (plus a b)
+    says_sub : {e f : Expression} {a b : CExpression} → Says tree privates e a
+        → Says tree privates f b → Says tree privates (sub e f) (less a b)
+    says_mul : {e f : Expression} {a b : CExpression} → Says tree privates e a
+        → Says tree privates f b → Says tree privates (mul e f) (times a b)
+    says_div : {e : Expression} {divisor : ℤ} {a : CExpression} → Says tree privates e a
+        → Says tree privates (div e divisor) (call (codes "over")
+        (first_of a (only (literal_of divisor))))
+    says_least : {arguments : Expressions} {a : CExpression}
+        → Chooses tree privates (codes "least") arguments a
+        → Says tree privates (least_of arguments) a
+    says_greatest : {arguments : Expressions} {a : CExpression}
+        → Chooses tree privates (codes "greatest") arguments a
+        → Says tree privates (greatest_of arguments) a
 
   -- of two at a time, from the first on
-  pub data Chooses (tree : Tree) (privates : List ℕ) : List ℕ → Expressions → CExpression → Type 0 where
+  pub data Chooses (tree : Tree) (privates : List ℕ) : List ℕ → Expressions → CExpression
+      → Type 0 where
     chooses_none : {of : List ℕ} → Chooses tree privates of no_more (constant 0)
-    chooses_first : {of : List ℕ} {e : Expression} {a : CExpression} → Says tree privates e a → Chooses tree privates of (one_more e no_more) a
-    chooses_more : {of : List ℕ} {arguments : Expressions} {e : Expression} {a b : CExpression} → Chooses tree privates of arguments a → Says tree privates e b →
+    chooses_first : {of : List ℕ} {e : Expression} {a : CExpression} → Says tree privates e a
+        → Chooses tree privates of (one_more e no_more) a
+    chooses_more : {of : List ℕ} {arguments : Expressions} {e : Expression} {a b : CExpression}
+        → Chooses tree privates of arguments a → Says tree privates e b →
         Chooses tree privates of (with_last arguments e) (call of (first_of a (only b)))
 
 -- in which places a sum, a product, or neither stands without parentheses
@@ -69,17 +87,20 @@ is_looser Product Factor = true
 is_looser Factor place = false
 
 -- bytes are appended that read as what an access, an expression or a comparison stands as
-pub record AppendsAccess (tree : Tree) (privates : List ℕ) (access : Access) (old new : List ℕ) : Type 0 where
+pub record AppendsAccess (tree : Tree) (privates : List ℕ) (access : Access) (old new : List ℕ) :
+    Type 0 where
   pub expression : CExpression
   pub says : SaysAccess tree privates access expression
   pub appends : Appends old new postfix expression
 
-pub record AppendsChoice (tree : Tree) (privates of : List ℕ) (arguments : Expressions) (old new : List ℕ) : Type 0 where
+pub record AppendsChoice (tree : Tree) (privates of : List ℕ) (arguments : Expressions)
+    (old new : List ℕ) : Type 0 where
   pub expression : CExpression
   pub says : Chooses tree privates of arguments expression
   pub appends : Appends old new unary expression
 
-pub record AppendsValue (tree : Tree) (privates : List ℕ) (e : Expression) (place : Place) (old new : List ℕ) : Type 0 where
+pub record AppendsValue (tree : Tree) (privates : List ℕ) (e : Expression) (place : Place)
+    (old new : List ℕ) : Type 0 where
   pub expression : CExpression
   pub says : Says tree privates e expression
   pub appends : Appends old new (rank_of place) expression

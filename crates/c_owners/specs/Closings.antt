@@ -21,26 +21,31 @@ abbrev pub named : Tree → List ℕ → ℕ → List ℕ → List ℕ → Type 
 named tree front n behind = code (front ++ (variable_name tree n ++ behind))
 
 abbrev pub total_begins : Tree → ℕ → List ℕ → Type 0
-total_begins tree n = indent ⨾ named tree (codes "word s_") n (codes " = 0; int ") ⨾ named tree (codes "a_") n (codes " = 0;\n")
+total_begins tree n = indent ⨾ named tree (codes "word s_") n (codes " = 0; int ") ⨾ named tree
+    (codes "a_") n (codes " = 0;\n")
 
 abbrev pub own_begins : Tree → ℕ → List ℕ → Type 0
 own_begins tree n = indent ⨾ named tree (codes "word o_") n (codes " = 0;\n")
 
 abbrev pub cells_text : Tree → List ℕ → List ℕ → List ℕ → Type 0
-cells_text tree privates sums = each_of (total_begins tree) sums ⨾ each_of (own_begins tree) privates
+cells_text tree privates sums =
+    each_of (total_begins tree) sums ⨾ each_of (own_begins tree) privates
 
 -- a loop has a trip
 abbrev pub has_trips_text : Tree → Head → List ℕ → Type 0
-has_trips_text tree head = form_text tree head.m1 ⨾ code (compared head.step) ⨾ form_text tree head.m2
+has_trips_text tree head =
+    form_text tree head.m1 ⨾ code (compared head.step) ⨾ form_text tree head.m2
 
 -- ---- behind: the owner of the last trip gives its private scalars to all
 
 -- the value of the loop in its last trip, where it has one
 abbrev pub last_by_steps : Tree → Head → List ℕ → Type 0
-last_by_steps tree head = code (codes "last_trip(") ⨾ form_text tree head.m1 ⨾ code (codes ", ") ⨾ form_text tree head.m2 ⨾ code (codes ", " ++ (signed_decimal head.step ++ codes ")"))
+last_by_steps tree head = code (codes "last_trip(") ⨾ form_text tree head.m1 ⨾ code (codes ", ") ⨾
+    form_text tree head.m2 ⨾ code (codes ", " ++ (signed_decimal head.step ++ codes ")"))
 
 abbrev pub last_trip_text : Tree → Head → List ℕ → Type 0
-last_trip_text tree head = chosen (unsigned_abs head.step == 1) (form_text tree head.m2) (last_by_steps tree head)
+last_trip_text tree head =
+    chosen (unsigned_abs head.step == 1) (form_text tree head.m2) (last_by_steps tree head)
 
 -- the owner of the last trip follows from the loop's value there
 abbrev pub rise_in : ℕ → Dist → ℤ → ℤ
@@ -48,11 +53,13 @@ rise_in workers (Block length) rise = rise
 rise_in workers Cyclic rise = int_rem_euclid rise (pos workers)
 
 abbrev pub follows_loop : ℕ → Anchor → ℕ → Bool
-follows_loop workers a n = not (int_eq (rise_in workers a.dist (coefficient_of a.form.loops n)) (pos 0))
+follows_loop workers a n =
+    not (int_eq (rise_in workers a.dist (coefficient_of a.form.loops n)) (pos 0))
 
 -- const number z = LAST;
 abbrev pub last_line : Tree → Head → List ℕ → Type 0
-last_line tree head = indent ⨾ code (codes "const number z = ") ⨾ last_trip_text tree head ⨾ code (codes ";\n")
+last_line tree head =
+    indent ⨾ code (codes "const number z = ") ⨾ last_trip_text tree head ⨾ code (codes ";\n")
 
 abbrev pub given_text : Tree → ℕ → List ℕ → Type 0
 given_text tree n = named tree (codes "v_") n (codes " = ") ⨾ named tree (codes "o_") n (codes "; ")
@@ -60,19 +67,25 @@ given_text tree n = named tree (codes "v_") n (codes " = ") ⨾ named tree (code
 -- if (M1 <= M2 && p == OWNER) { v_T = o_T; }
 abbrev pub given_line : Tree → ℕ → Anchor → Head → List ℕ → List ℕ → Type 0
 given_line tree workers a head privates =
-    indent ⨾ code (codes "if (") ⨾ has_trips_text tree head ⨾ code (codes " && p == ") ⨾ OwnerText tree workers a (Some head.number)
-    ⨾ code (codes ") { ") ⨾ each_of (given_text tree) privates ⨾ code (codes "} // the last trip is its own\n")
+    indent ⨾ code (codes "if (") ⨾ has_trips_text tree head ⨾ code (codes " && p == ") ⨾ OwnerText
+    tree workers a (Some head.number)
+    ⨾ code (codes ") { ") ⨾ each_of (given_text tree) privates ⨾ code
+    (codes "} // the last trip is its own\n")
 
 abbrev pub given_lines : Tree → ℕ → Anchor → Head → List ℕ → List ℕ → Type 0
-given_lines tree workers a head privates = wanted (follows_loop workers a head.number) (last_line tree head) ⨾ given_line tree workers a head privates
+given_lines tree workers a head privates = wanted (follows_loop workers a head.number)
+    (last_line tree head) ⨾ given_line tree workers a head privates
 
 abbrev pub privates_text : Tree → ℕ → Anchor → Head → List ℕ → List ℕ → Type 0
-privates_text tree workers a head privates = wanted (not (length privates == 0)) (given_lines tree workers a head privates)
+privates_text tree workers a head privates =
+    wanted (not (length privates == 0)) (given_lines tree workers a head privates)
 
 -- ---- and whoever has assigned a sum adds its total: if (a_S) add(&v_S, s_S);
 
 abbrev pub total_text : Tree → ℕ → List ℕ → Type 0
-total_text tree n = indent ⨾ named tree (codes "if (a_") n (codes ") add(&") ⨾ named tree (codes "v_") n (codes ", ") ⨾ named tree (codes "s_") n (codes ");\n")
+total_text tree n = indent ⨾ named tree (codes "if (a_") n (codes ") add(&") ⨾ named tree
+    (codes "v_") n (codes ", ") ⨾ named tree (codes "s_") n (codes ");\n")
 
 abbrev pub closings_text : Tree → ℕ → Anchor → Head → List ℕ → List ℕ → List ℕ → Type 0
-closings_text tree workers a head privates sums = privates_text tree workers a head privates ⨾ each_of (total_text tree) sums
+closings_text tree workers a head privates sums =
+    privates_text tree workers a head privates ⨾ each_of (total_text tree) sums

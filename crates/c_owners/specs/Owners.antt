@@ -30,7 +30,8 @@ abbrev pub place_at : Tree → Option ℕ → Form → Values → ℤ
 place_at tree last f v = f.constant +ℤ loops_in last v f.loops +ℤ dot f.params (param_values tree)
 
 abbrev pub spot_at : Tree → ℤ → List (ℕ × ℤ) → List (ℕ × ℤ) → Option ℕ → Values → ℤ
-spot_at tree k loops params last = place_at tree last (record { constant = k; loops = loops; params = params })
+spot_at tree k loops params last =
+    place_at tree last (record { constant = k; loops = loops; params = params })
 
 -- two places are alike but for a multiple of the workers
 abbrev pub Alike : ℕ → ℤ → ℤ → Type 0
@@ -38,10 +39,17 @@ Alike workers a b = (k : ℤ) × (a ≡ b +ℤ k *ℤ pos workers)
 
 -- an expression is the owner of a place, or of one that is alike where places are dealt in turn: a number where nothing is left to compute, or by the functions of the runtime
 pub data IsOwner (workers : ℕ) : Dist → (Values → ℤ) → CExpression → Type 0 where
-  block_number : {length : ℕ} {place : Values → ℤ} {k : ℤ} → ((v : Values) → place v ≡ k) → IsOwner workers (Block length) place (literal_of (dealt (Block length) workers k))
-  turn_number : {place : Values → ℤ} {k : ℤ} → ((v : Values) → Alike workers k (place v)) → IsOwner workers Cyclic place (literal_of (dealt Cyclic workers k))
-  block_owner : {length : ℕ} {place : Values → ℤ} {a : CExpression} → ComesTo a place → IsOwner workers (Block length) place (call (codes "floored") (first_of a (only (constant length))))
-  turn_owner : {place other : Values → ℤ} {a : CExpression} → ComesTo a other → ((v : Values) → Alike workers (other v) (place v)) → IsOwner workers Cyclic place (call (codes "modulo") (first_of a (only (identifier (codes "P")))))
+  block_number : {length : ℕ} {place : Values → ℤ} {k : ℤ} → ((v : Values) → place v ≡ k)
+      → IsOwner workers (Block length) place (literal_of (dealt (Block length) workers k))
+  turn_number : {place : Values → ℤ} {k : ℤ} → ((v : Values) → Alike workers k (place v))
+      → IsOwner workers Cyclic place (literal_of (dealt Cyclic workers k))
+  block_owner : {length : ℕ} {place : Values → ℤ} {a : CExpression} → ComesTo a place
+      → IsOwner workers (Block length) place
+      (call (codes "floored") (first_of a (only (constant length))))
+  turn_owner : {place other : Values → ℤ} {a : CExpression} → ComesTo a other
+      → ((v : Values) → Alike workers (other v) (place v))
+      → IsOwner workers Cyclic place (call (codes "modulo")
+      (first_of a (only (identifier (codes "P")))))
 
 pub record SpotOwner (workers : ℕ) (dist : Dist) (place : Values → ℤ) (text : List ℕ) : Type 0 where
   pub expression : CExpression

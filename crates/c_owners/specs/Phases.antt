@@ -8,7 +8,8 @@ use Rattle.c_statements.specs.Texts.{code, indent, line, nothing, ◌⨾◌}
 use Rattle.c_owners.specs.Owners.{OwnerText}
 
 abbrev pub producer_text : Tree → ℕ → Anchor → List ℕ → Type 0
-producer_text tree workers a = indent ⨾ code (codes "producer(p, e, ") ⨾ OwnerText tree workers a None ⨾ code (codes ");\n")
+producer_text tree workers a =
+    indent ⨾ code (codes "producer(p, e, ") ⨾ OwnerText tree workers a None ⨾ code (codes ");\n")
 
 abbrev pub kind_text : Tree → ℕ → Kind → List ℕ → Type 0
 kind_text tree workers Nothing = nothing
@@ -26,4 +27,5 @@ boundary_text tree workers (Some kind) = kind_text tree workers kind
 
 -- behind its remarks it is counted in e; then come its waits, and then its share
 abbrev pub phase_text : Tree → ℕ → List ℕ → Option Kind → List ℕ → List ℕ → Type 0
-phase_text tree workers remarks kind share = code remarks ⨾ line (codes "e++;") ⨾ boundary_text tree workers kind ⨾ code share
+phase_text tree workers remarks kind share =
+    code remarks ⨾ line (codes "e++;") ⨾ boundary_text tree workers kind ⨾ code share

@@ -32,11 +32,13 @@ stepped n step = codes "; " ++ (loop_name n ++ (change step ++ codes ") {\n"))
 
 -- it goes up, or down, as the step says, each time by so much
 abbrev pub for_text : ℕ → ℤ → ℤ → (List ℕ → Type 0) → (List ℕ → Type 0) → List ℕ → Type 0
-for_text n step by first last = indent ⨾ code (begun n) ⨾ first ⨾ code (ended n step) ⨾ last ⨾ code (stepped n by)
+for_text n step by first last =
+    indent ⨾ code (begun n) ⨾ first ⨾ code (ended n step) ⨾ last ⨾ code (stepped n by)
 
 -- a loop all of whose trips are made
 abbrev pub loop_text : Tree → Head → List ℕ → Type 0
-loop_text tree head = for_text head.number head.step head.step (form_text tree head.m1) (form_text tree head.m2)
+loop_text tree head =
+    for_text head.number head.step head.step (form_text tree head.m1) (form_text tree head.m2)
 
 -- ---- assignments
 
@@ -45,13 +47,17 @@ guard_text tree None = nothing
 guard_text tree (Some guard) = code (codes "if (") ⨾ IsComparison tree guard ⨾ code (codes ") ")
 
 abbrev pub changed_text : Tree → List ℕ → ℕ → List ℕ → Expression → List ℕ → Type 0
-changed_text tree privates n sign e = code (total_cell tree n ++ sign) ⨾ IsValue tree privates e ⨾ code (codes "; ")
+changed_text tree privates n sign e =
+    code (total_cell tree n ++ sign) ⨾ IsValue tree privates e ⨾ code (codes "; ")
 
 -- what is added to a scalar that is summed up, wherever that stands in the sum, and what is subtracted
 abbrev pub additions_text : Tree → List ℕ → ℕ → Expression → List ℕ → Type 0
 additions_text tree privates n (add left right) =
-    chosen (adds_once n left) (additions_text tree privates n left ⨾ changed_text tree privates n (codes " += ") right) (additions_text tree privates n right ⨾ changed_text tree privates n (codes " += ") left)
-additions_text tree privates n (sub left right) = additions_text tree privates n left ⨾ changed_text tree privates n (codes " -= ") right
+    chosen (adds_once n left) (additions_text tree privates n left ⨾ changed_text tree privates n
+    (codes " += ") right) (additions_text tree privates n right ⨾ changed_text tree privates n
+    (codes " += ") left)
+additions_text tree privates n (sub left right) =
+    additions_text tree privates n left ⨾ changed_text tree privates n (codes " -= ") right
 additions_text tree privates n e = nothing
 
 -- a scalar is assigned that is summed up
@@ -59,16 +65,20 @@ abbrev pub is_summed : List ℕ → Access → Bool
 is_summed sums target = length target.subscripts == 0 && is_own sums target.variable
 
 abbrev pub summed_text : Tree → List ℕ → ℕ → Expression → List ℕ → Type 0
-summed_text tree privates n e = code (codes "{ ") ⨾ additions_text tree privates n e ⨾ code (flag_cell tree n ++ codes " = 1; }\n")
+summed_text tree privates n e = code (codes "{ ") ⨾ additions_text tree privates n e ⨾ code
+    (flag_cell tree n ++ codes " = 1; }\n")
 
 abbrev pub stored_text : Tree → List ℕ → Access → Expression → List ℕ → Type 0
-stored_text tree privates target e = IsCell tree privates target ⨾ code (codes " = ") ⨾ IsValue tree privates e ⨾ code (codes ";\n")
+stored_text tree privates target e =
+    IsCell tree privates target ⨾ code (codes " = ") ⨾ IsValue tree privates e ⨾ code (codes ";\n")
 
 abbrev pub assigned_text : Tree → List ℕ → List ℕ → Access → Expression → List ℕ → Type 0
-assigned_text tree privates sums target e = chosen (is_summed sums target) (summed_text tree privates target.variable e) (stored_text tree privates target e)
+assigned_text tree privates sums target e = chosen (is_summed sums target)
+    (summed_text tree privates target.variable e) (stored_text tree privates target e)
 
 abbrev pub assignment_text : Tree → List ℕ → List ℕ → Assignment → List ℕ → Type 0
-assignment_text tree privates sums a = indent ⨾ guard_text tree a.guard ⨾ assigned_text tree privates sums a.target a.value
+assignment_text tree privates sums a =
+    indent ⨾ guard_text tree a.guard ⨾ assigned_text tree privates sums a.target a.value
 
 -- ---- PRINTs
 
@@ -84,15 +94,19 @@ abbrev pub CountText : List ℕ → Type 0
 CountText bytes = (count : ℕ) × (bytes ≡ decimal count)
 
 abbrev pub whole_text : Tree → ℕ → List ℕ → Type 0
-whole_text tree n = code (codes "print_all(" ++ (shared_cell tree n ++ codes ", ")) ⨾ CountText ⨾ code (codes ");\n")
+whole_text tree n = code (codes "print_all(" ++ (shared_cell tree n ++ codes ", ")) ⨾ CountText ⨾
+    code (codes ");\n")
 
 abbrev pub item_text : Tree → List ℕ → Printed → List ℕ → Type 0
-item_text tree privates (value e) = indent ⨾ code (codes "print(") ⨾ IsValue tree privates e ⨾ code (codes ");\n")
+item_text tree privates (value e) =
+    indent ⨾ code (codes "print(") ⨾ IsValue tree privates e ⨾ code (codes ");\n")
 item_text tree privates (whole n) = indent ⨾ whole_text tree n
-item_text tree privates (text characters) = indent ⨾ code (codes "fputs(\" " ++ (flat_map escaped characters ++ codes "\", stdout);\n"))
+item_text tree privates (text characters) =
+    indent ⨾ code (codes "fputs(\" " ++ (flat_map escaped characters ++ codes "\", stdout);\n"))
 
 abbrev pub print_text : Tree → List ℕ → List Printed → List ℕ → Type 0
-print_text tree privates items = each_of (item_text tree privates) items ⨾ line (codes "putchar('\\n');")
+print_text tree privates items =
+    each_of (item_text tree privates) items ⨾ line (codes "putchar('\\n');")
 
 -- ---- statements, where a processor has cells of its own of these scalars and sums up those
 
@@ -102,10 +116,12 @@ work_text tree privates sums (print p) = print_text tree privates p.items
 
 abbrev mutual
   pub statement_text : Tree → List ℕ → List ℕ → Statement → List ℕ → Type 0
-  statement_text tree privates sums (do_loop head body) = loop_text tree head ⨾ statements_text tree privates sums body ⨾ line (codes "}")
+  statement_text tree privates sums (do_loop head body) =
+      loop_text tree head ⨾ statements_text tree privates sums body ⨾ line (codes "}")
   statement_text tree privates sums (work w) = work_text tree privates sums w
   statement_text tree privates sums (continue n) = nothing
 
   pub statements_text : Tree → List ℕ → List ℕ → Statements → List ℕ → Type 0
   statements_text tree privates sums done = nothing
-  statements_text tree privates sums (next s rest) = statement_text tree privates sums s ⨾ statements_text tree privates sums rest
+  statements_text tree privates sums (next s rest) =
+      statement_text tree privates sums s ⨾ statements_text tree privates sums rest

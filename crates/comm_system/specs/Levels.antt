@@ -13,7 +13,9 @@ pub record Order : Type 0 where
   pub earlier : Bool
 
 abbrev pub order_at : ℕ → ℕ → Order
-order_at loops level = if level == 0 then record { equal = loops; earlier = false } else record { equal = level - 1; earlier = true }
+order_at loops level = if level == 0
+    then record { equal = loops; earlier = false }
+    else record { equal = level - 1; earlier = true }
 
 -- two trips of a loop inside so many Outer loops
 abbrev pub two_trips : ℕ → Order

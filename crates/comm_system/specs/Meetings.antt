@@ -52,7 +52,8 @@ IsPast step value end = IsBehind (int_le (pos 0) step) value end
 
 abbrev pub IsInLastTrip : List ℤ → List ℤ → Option Head → Type 0
 IsInLastTrip params loops None = Unit {0}
-IsInLastTrip params loops (Some h) = IsPast h.step (numbered loops h.number +ℤ h.step) (form_value h.m2 loops params)
+IsInLastTrip params loops (Some h) =
+    IsPast h.step (numbered loops h.number +ℤ h.step) (form_value h.m2 loops params)
 
 -- of these loops that inside so many, if one is
 abbrev pub IsInLastTripWhere : Option ℕ → List ℤ → List ℤ → List Head → Type 0
@@ -64,7 +65,8 @@ abbrev pub AreSame : ℕ → List Head → List Head → List ℤ → List ℤ �
 AreSame zero heads others loops loops' = Unit {0}
 AreSame (suc k) [] others loops loops' = ⊥
 AreSame (suc k) (h ∷ heads) [] loops loops' = ⊥
-AreSame (suc k) (h ∷ heads) (g ∷ others) loops loops' = (numbered loops h.number ≡ numbered loops' g.number) × AreSame k heads others loops loops'
+AreSame (suc k) (h ∷ heads) (g ∷ others) loops loops' =
+    (numbered loops h.number ≡ numbered loops' g.number) × AreSame k heads others loops loops'
 
 -- the loop inside so many is at an earlier trip
 abbrev pub IsEarlier : ℕ → List ℕ → List ℕ → Type 0
@@ -78,7 +80,8 @@ IsEarlierWhere true k ns ms = IsEarlier k ns ms
 IsEarlierWhere false k ns ms = Unit {0}
 
 -- two points at which the accesses of a pair meet: both are made there, in the last trip where they are made in that alone, at one element, and the loops round them stand in this order
-pub record Meet (tree : Tree) (order : Order) (lasts : Option ℕ × Option ℕ) (pair : Pair) (x y : Point) : Type 0 where
+pub record Meet (tree : Tree) (order : Order) (lasts : Option ℕ × Option ℕ) (pair : Pair)
+    (x y : Point) : Type 0 where
   pub first : IsMadeAt tree pair.first x
   pub second : IsMadeAt tree pair.second y
   pub first_last : IsInLastTripWhere lasts.0 (param_values tree) x.loops pair.first.around
@@ -94,7 +97,8 @@ pub record Holder : Type 0 where
 
 -- it is the owner of what stands at this value, and a processor
 abbrev pub Holds : Dist → ℕ → ℤ → Holder → Type 0
-Holds (Block b) workers w o = (o.owner < workers) × ((pos b *ℤ pos o.owner) ≤ℤ w) × (w ≤ℤ (pos b *ℤ pos o.owner +ℤ pos b -ℤ pos 1))
+Holds (Block b) workers w o = (o.owner < workers) × ((pos b *ℤ pos o.owner) ≤ℤ w)
+    × (w ≤ℤ (pos b *ℤ pos o.owner +ℤ pos b -ℤ pos 1))
 Holds Cyclic workers w o = (o.owner < workers) × (w ≡ pos workers *ℤ o.round +ℤ pos o.owner)
 
 -- the values of an owner's unknowns, and of those of owners one behind another
@@ -105,7 +109,8 @@ holder_values Cyclic o = pos o.owner ∷ o.round ∷ []
 abbrev pub holders_values : List Placed → List Holder → List ℤ
 holders_values [] holders = []
 holders_values (p ∷ placed) [] = []
-holders_values (p ∷ placed) (o ∷ holders) = holder_values p.anchor.dist o ++ holders_values placed holders
+holders_values (p ∷ placed) (o ∷ holders) =
+    holder_values p.anchor.dist o ++ holders_values placed holders
 
 -- the values of a point's unknowns
 abbrev pub point_values : List Head → Point → List ℤ
@@ -113,7 +118,8 @@ point_values around x = laid x.loops around x.trips ++ x.free
 
 -- the values of all unknowns: the named constants, the two points, and the owners
 abbrev pub values_of : Tree → Pair → Point → Point → List ℤ → List ℤ
-values_of tree pair x y owners = param_values tree ++ (point_values pair.first.around x ++ (point_values pair.second.around y ++ owners))
+values_of tree pair x y owners = param_values tree
+    ++ (point_values pair.first.around x ++ (point_values pair.second.around y ++ owners))
 
 -- an owner lies so far from another on a side of it
 abbrev pub LiesBeside : Direction → ℕ → ℕ → ℕ → Type 0
@@ -136,13 +142,17 @@ loops_at x y of_first = x.loops
 loops_at x y of_second = y.loops
 
 -- the owner of an anchor at the point of its side: the anchor names only the loops round the access there, and named constants that are there
-pub record IsHolder (tree : Tree) (workers : ℕ) (pair : Pair) (x y : Point) (u : Anchor × Side) (o : Holder) : Type 0 where
-  pub named : IsTrue (names_only (length (param_values tree)) (map (λ (h : Head). h.number) (around_at pair u.1)) u.0.form)
+pub record IsHolder (tree : Tree) (workers : ℕ) (pair : Pair) (x y : Point) (u : Anchor × Side)
+    (o : Holder) : Type 0 where
+  pub named : IsTrue (names_only (length (param_values tree))
+      (map (λ (h : Head). h.number) (around_at pair u.1)) u.0.form)
   pub holds : Holds u.0.dist workers (form_value u.0.form (loops_at x y u.1) (param_values tree)) o
 
 -- these are the owners of anchors
-abbrev pub AreHolders : Tree → ℕ → Pair → Point → Point → List (Anchor × Side) → List Holder → Type 0
+abbrev pub AreHolders : Tree → ℕ → Pair → Point → Point → List (Anchor × Side) → List Holder
+    → Type 0
 AreHolders tree workers pair x y [] [] = Unit {0}
 AreHolders tree workers pair x y [] (o ∷ os) = ⊥
 AreHolders tree workers pair x y (u ∷ us) [] = ⊥
-AreHolders tree workers pair x y (u ∷ us) (o ∷ os) = IsHolder tree workers pair x y u o × AreHolders tree workers pair x y us os
+AreHolders tree workers pair x y (u ∷ us) (o ∷ os) =
+    IsHolder tree workers pair x y u o × AreHolders tree workers pair x y us os

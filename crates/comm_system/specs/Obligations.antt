@@ -34,33 +34,49 @@ pub record Task : Type 0 where
   pub range : ℤ × ℤ
 
 abbrev task : Inequalities → Pair → ℕ → ℕ → ℤ × ℤ → Task
-task system pair level piece range = record { system = system; lines = (pair.first.line, pair.second.line); variable = variable_of pair.first.what; level = level; piece = piece; range = range }
+task system pair level piece range = record {
+  system = system;
+  lines = (pair.first.line, pair.second.line);
+  variable = variable_of pair.first.what;
+  level = level;
+  piece = piece;
+  range = range;
+}
 
 -- two trips of a Doall phase access one element
 abbrev pub trips_task : Tree → Plan → StaticPhase → Pair → Task
 trips_task tree plan s pair =
-    task (system_of (behind_pair tree pair - 1) (pair_rows tree plan.conditions (two_trips (length s.outer)) (None, None) pair)) pair 0 0 (pos 0, pos 0)
+    task (system_of (behind_pair tree pair - 1)
+    (pair_rows tree plan.conditions (two_trips (length s.outer)) (None, None) pair)) pair 0 0
+    (pos 0, pos 0)
 
 abbrev pub trips_tasks : Tree → Plan → StaticPhase → List Task
-trips_tasks tree plan s = if is_dealt plan.cut.marks s.what then map (trips_task tree plan s) (pairs_within plan.cut s) else []
+trips_tasks tree plan s = if is_dealt plan.cut.marks s.what
+    then map (trips_task tree plan s) (pairs_within plan.cut s)
+    else []
 
 -- the anchor of the static phase with this number, from 1
 abbrev or_first : Option Anchor → Anchor
 or_first (Some a) = a
-or_first None = record { form = record { constant = pos 0; loops = []; params = [] }; dist = Cyclic }
+or_first None =
+    record { form = record { constant = pos 0; loops = []; params = [] }; dist = Cyclic }
 
 abbrev pub anchor_at : Plan → ℕ → Anchor
 anchor_at plan s = or_first (slice_get plan.anchors (s - 1))
 
 -- the producers' anchors, each at the loops of its side
 abbrev pub placed_at : Tree → Pair → Anchor × Side → Placed
-placed_at tree pair (a, of_first) = record { anchor = a; first = first_of tree; around = pair.first.around }
-placed_at tree pair (a, of_second) = record { anchor = a; first = second_of tree pair; around = pair.second.around }
+placed_at tree pair (a, of_first) =
+    record { anchor = a; first = first_of tree; around = pair.first.around }
+placed_at tree pair (a, of_second) =
+    record { anchor = a; first = second_of tree pair; around = pair.second.around }
 
 -- the owners of both instances, then the producers
 abbrev pub owners_of : Tree → Plan → Slot → List (Anchor × Side) → Pair → List Placed
 owners_of tree plan slot producers pair =
-    placed_at tree pair (anchor_at plan slot.s, of_first) ∷ placed_at tree pair (anchor_at plan slot.t, of_second) ∷ map (placed_at tree pair) producers
+    placed_at tree pair (anchor_at plan slot.s, of_first)
+    ∷ placed_at tree pair (anchor_at plan slot.t, of_second)
+    ∷ map (placed_at tree pair) producers
 
 -- of the accesses of a pair that are those of private scalars, how many loops stand outside the one in whose last trip alone they are made
 abbrev pub lasts_at : Cutting → Slot → Pair → Option ℕ × Option ℕ
@@ -82,10 +98,13 @@ shared_system tree plan slot producers pair =
     let order = order_at (common slot.first.outer slot.second.outer) slot.level in
     let q = behind_pair tree pair in
     let owners = owners_of tree plan slot producers pair in
-    system_of (q + owners_unknowns owners - 1) (pair_rows tree plan.conditions order (lasts_at plan.cut slot pair) pair ++ owners_have plan.workers q owners)
+    system_of (q + owners_unknowns owners - 1)
+    (pair_rows tree plan.conditions order (lasts_at plan.cut slot pair) pair
+    ++ owners_have plan.workers q owners)
 
 abbrev pub shared_task : Tree → Plan → Slot → ℕ → ℕ → List (Anchor × Side) → Pair → Task
-shared_task tree plan slot left right producers pair = task (shared_system tree plan slot producers pair) pair slot.level 0 (range_of left right)
+shared_task tree plan slot left right producers pair =
+    task (shared_system tree plan slot producers pair) pair slot.level 0 (range_of left right)
 
 -- a piece of a pair, with its number
 abbrev pub piece_task : Tree → Plan → Slot → ℕ → ℕ → List (Anchor × Side) → Pair → ℕ → Piece → Task
@@ -93,7 +112,9 @@ piece_task tree plan slot left right producers pair number piece =
     let order = order_at (common slot.first.outer slot.second.outer) slot.level in
     let q = behind_pair tree pair in
     let owners = owners_of tree plan slot producers pair in
-    task (system_of (q + owners_unknowns owners - 1) (pair_rows tree plan.conditions order (lasts_at plan.cut slot pair) pair ++ owners_have plan.workers q owners ++ last_of left right (owner_numbers q owners) piece))
+    task (system_of (q + owners_unknowns owners - 1)
+    (pair_rows tree plan.conditions order (lasts_at plan.cut slot pair) pair
+    ++ owners_have plan.workers q owners ++ last_of left right (owner_numbers q owners) piece))
     pair slot.level number (range_of left right)
 
 abbrev pub pieces_from : (ℕ → Piece → Task) → ℕ → List Piece → List Task
@@ -101,17 +122,20 @@ pieces_from f n [] = []
 pieces_from f n (piece ∷ rest) = f n piece ∷ pieces_from f (suc n) rest
 
 abbrev pub pair_tasks : Tree → Plan → Slot → ℕ → ℕ → List (Anchor × Side) → Pair → List Task
-pair_tasks tree plan slot left right producers pair = pieces_from (piece_task tree plan slot left right producers pair) 1 (pieces (length producers))
+pair_tasks tree plan slot left right producers pair =
+    pieces_from (piece_task tree plan slot left right producers pair) 1 (pieces (length producers))
 
 -- the systems of a slot, of which the kinds show only its signature
 abbrev pub slot_tasks : Tree → Plan → Slot → Signature → List Task
 slot_tasks tree plan slot blocked = []
-slot_tasks tree plan slot (waits left right producers) = flat_map (pair_tasks tree plan slot left right producers) (pairs_of plan.cut slot.first slot.second)
+slot_tasks tree plan slot (waits left right producers) = flat_map
+    (pair_tasks tree plan slot left right producers) (pairs_of plan.cut slot.first slot.second)
 
 -- a loop on the path of a private scalar makes no trip; and each of a phase
 abbrev pub zero_trip_task : Tree → Plan → PathLoop → Task
 zero_trip_task tree plan p = record {
-  system = system_of (first_of tree + 2 * length (loops_outside p) - 1) (conditions_have (param_values tree) plan.conditions ++ zero_trip_has (first_of tree) p);
+  system = system_of (first_of tree + 2 * length (loops_outside p) - 1)
+      (conditions_have (param_values tree) plan.conditions ++ zero_trip_has (first_of tree) p);
   lines = (line_of (loops_from p), p.store.line);
   variable = variable_of p.store.what;
   level = 0;
@@ -124,32 +148,47 @@ paths_tasks tree plan s = map (zero_trip_task tree plan) (paths_of plan.cut s)
 
 -- the slots in order: the second phase, then the first, then the level
 abbrev pub slots_between : ℕ → StaticPhase → ℕ → StaticPhase → List Slot
-slots_between s first t second = map (λ level. record { s = s; first = first; t = t; second = second; level = level }) (levels (common first.outer second.outer) s t)
+slots_between s first t second = map (λ level.
+    record { s = s; first = first; t = t; second = second; level = level })
+    (levels (common first.outer second.outer) s t)
 
 abbrev pub slots_before : ℕ → List StaticPhase → ℕ → StaticPhase → List Slot
 slots_before s [] t second = []
-slots_before s (first ∷ rest) t second = slots_between s first t second ++ slots_before (suc s) rest t second
+slots_before s (first ∷ rest) t second =
+    slots_between s first t second ++ slots_before (suc s) rest t second
 
 abbrev pub slots_from : List StaticPhase → ℕ → List StaticPhase → List Slot
 slots_from phases t [] = []
-slots_from phases t (second ∷ rest) = slots_before 1 phases t second ++ slots_from phases (suc t) rest
+slots_from phases t (second ∷ rest) =
+    slots_before 1 phases t second ++ slots_from phases (suc t) rest
 
 abbrev pub slots_of : List StaticPhase → List Slot
 slots_of phases = slots_from phases 1 phases
 
 -- the signature of a slot under kinds
 abbrev pub slot_signature : Version → List Kind → List StaticPhase → Slot → Signature
-slot_signature version kinds phases slot = signature_of version kinds (certain_boundaries phases slot.first.outer slot.second.outer slot.s slot.t slot.level)
+slot_signature version kinds phases slot = signature_of version kinds
+    (certain_boundaries phases slot.first.outer slot.second.outer slot.s slot.t slot.level)
 
 abbrev pub tasks_of : Tree → Plan → List Task
 tasks_of tree plan =
     let phases = phases_of tree plan.cut.marks in
-    flat_map (trips_tasks tree plan) phases ++ flat_map (λ slot. slot_tasks tree plan slot (slot_signature plan.version plan.kinds phases slot)) (slots_of phases)
+    flat_map (trips_tasks tree plan) phases
+    ++ flat_map (λ slot. slot_tasks tree plan slot
+    (slot_signature plan.version plan.kinds phases slot)) (slots_of phases)
     ++ flat_map (paths_tasks tree plan) phases
 
 -- an obligation: a task with its number
 abbrev pub numbered : ℕ → Task → Obligation
-numbered n k = record { number = n; system = k.system; lines = k.lines; variable = k.variable; level = k.level; piece = k.piece; range = k.range }
+numbered n k = record {
+  number = n;
+  system = k.system;
+  lines = k.lines;
+  variable = k.variable;
+  level = k.level;
+  piece = k.piece;
+  range = k.range;
+}
 
 abbrev pub numbered_from : ℕ → List Task → List Obligation
 numbered_from n [] = []

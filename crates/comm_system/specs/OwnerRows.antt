@@ -27,21 +27,32 @@ owner_unknowns Cyclic = 2
 abbrev pub owns : Dist → ℕ → ℕ → List (ℕ × ℤ) → ℤ → List Constraint
 owns (Block b) workers q terms constant =
     record { terms = (q, pos b) ∷ with_sign Minus terms; bound = constant }
-    ∷ record { terms = with_sign Plus terms ++ (q, neg_ℤ (pos b)) ∷ []; bound = pos b -ℤ pos 1 -ℤ constant } ∷ []
+    ∷ record {
+      terms = with_sign Plus terms ++ (q, neg_ℤ (pos b)) ∷ [];
+      bound = pos b -ℤ pos 1 -ℤ constant;
+    } ∷ []
 owns Cyclic workers q terms constant =
-    record { terms = with_sign Plus terms ++ (suc q, neg_ℤ (pos workers)) ∷ (q, negsuc 0) ∷ []; bound = neg_ℤ constant }
-    ∷ record { terms = with_sign Minus terms ++ (suc q, pos workers) ∷ (q, pos 1) ∷ []; bound = constant } ∷ []
+    record {
+      terms = with_sign Plus terms ++ (suc q, neg_ℤ (pos workers)) ∷ (q, negsuc 0) ∷ [];
+      bound = neg_ℤ constant;
+    }
+    ∷ record {
+      terms = with_sign Minus terms ++ (suc q, pos workers) ∷ (q, pos 1) ∷ [];
+      bound = constant;
+    } ∷ []
 
 -- and a processor
 abbrev pub owner_has : ℕ → ℕ → Placed → List Constraint
 owner_has workers q p =
     owns p.anchor.dist workers q (terms_of p.first p.around p.anchor.form) p.anchor.form.constant
-    ++ record { terms = (q, negsuc 0) ∷ []; bound = pos 0 } ∷ record { terms = (q, pos 1) ∷ []; bound = pos workers -ℤ pos 1 } ∷ []
+    ++ record { terms = (q, negsuc 0) ∷ []; bound = pos 0 }
+    ∷ record { terms = (q, pos 1) ∷ []; bound = pos workers -ℤ pos 1 } ∷ []
 
 -- owners one behind another, from this unknown on: their rows, their unknowns, and how many unknowns there are
 abbrev pub owners_have : ℕ → ℕ → List Placed → List Constraint
 owners_have workers q [] = []
-owners_have workers q (p ∷ placed) = owner_has workers q p ++ owners_have workers (q + owner_unknowns p.anchor.dist) placed
+owners_have workers q (p ∷ placed) =
+    owner_has workers q p ++ owners_have workers (q + owner_unknowns p.anchor.dist) placed
 
 abbrev pub owner_numbers : ℕ → List Placed → List ℕ
 owner_numbers q [] = []
@@ -71,7 +82,8 @@ choices zero = [] ∷ []
 choices (suc n) = map (λ ds. below ∷ ds) (choices n) ++ map (λ ds. above ∷ ds) (choices n)
 
 abbrev pub pieces : ℕ → List Piece
-pieces n = flat_map (λ d. map (λ ds. record { range = d; producers = ds }) (choices n)) (below ∷ above ∷ [])
+pieces n = flat_map (λ d. map (λ ds. record { range = d; producers = ds }) (choices n))
+    (below ∷ above ∷ [])
 
 -- how far the first owner lies from the second: more than so many to the left, or to the right
 abbrev pub distance : Direction → ℕ → ℕ → ℕ
@@ -86,4 +98,5 @@ beside q (o ∷ os) (d ∷ ds) = apart (sign_of d) q o (negsuc 0) ∷ beside q o
 
 -- the last rows, where q and p are the owners and the others are the producers'
 abbrev pub last_rows : ℕ → ℕ → ℕ → ℕ → List ℕ → Piece → List Constraint
-last_rows left right q p os piece = apart (sign_of piece.range) q p (neg_ℤ (pos (distance piece.range left right))) ∷ beside q os piece.producers
+last_rows left right q p os piece = apart (sign_of piece.range) q p
+    (neg_ℤ (pos (distance piece.range left right))) ∷ beside q os piece.producers

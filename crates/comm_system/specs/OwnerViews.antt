@@ -19,6 +19,7 @@ fits_owner p = nat_lt (p.first + 2 * length p.around.now) (2 ^ 32) && has_places
 -- the value of an anchor's form less that of a round and an owner, with this sign, is at most 0
 abbrev pub dealt_of : Sign → ℕ → ℕ → Placed → Constraint
 dealt_of sign q workers p = record {
-  terms = with_sign sign (terms_of p.first p.around p.anchor.form) ++ (q + 1, signed (flipped sign) (pos workers)) ∷ (q, signed (flipped sign) (pos 1)) ∷ [];
+  terms = with_sign sign (terms_of p.first p.around p.anchor.form)
+      ++ (q + 1, signed (flipped sign) (pos workers)) ∷ (q, signed (flipped sign) (pos 1)) ∷ [];
   bound = signed (flipped sign) p.anchor.form.constant;
 }

@@ -13,7 +13,8 @@ pub record Pair : Type 0 where
 
 -- the ordered pairs of conflicting accesses, the first rising, then the second; an access that stores conflicts with itself
 abbrev pub pairs_among : List Reference → List Reference → List Pair
-pairs_among firsts seconds = flat_map (λ a. map (λ b. record { first = a; second = b }) (filter (conflict a) seconds)) firsts
+pairs_among firsts seconds =
+    flat_map (λ a. map (λ b. record { first = a; second = b }) (filter (conflict a) seconds)) firsts
 
 -- those of two phases under a cut, and those of two trips of a phase: there each processor has its own cells of own scalars
 abbrev pub pairs_of : Cutting → StaticPhase → StaticPhase → List Pair

@@ -27,7 +27,8 @@ no_trip first outside (h ∷ inside) = differ (sign_of h.step) first outside h.m
 
 -- it makes no trip where those outside it, whose first value has this number, are at trips of theirs
 abbrev pub zero_trip_has : ℕ → PathLoop → List Constraint
-zero_trip_has first p = loops_have first (loops_outside p) first (loops_outside p) ++ no_trip first (loops_outside p) (loops_from p)
+zero_trip_has first p = loops_have first (loops_outside p) first (loops_outside p)
+    ++ no_trip first (loops_outside p) (loops_from p)
 
 -- the line of its DO
 abbrev pub line_of : List Head → ℕ
@@ -41,7 +42,8 @@ first_access s v = find (λ r. variable_of r.what == v) (references_of s)
 -- the loops round an access inside a phase's own, from the outermost
 abbrev pub path_to : StaticPhase → Option Reference → List PathLoop
 path_to s None = []
-path_to s (Some r) = map (λ k. record { store = r; outside = k }) (range_with_len (length s.outer + 1) (length r.around - (length s.outer + 1)))
+path_to s (Some r) = map (λ k. record { store = r; outside = k })
+    (range_with_len (length s.outer + 1) (length r.around - (length s.outer + 1)))
 
 -- the path of a scalar in a phase; and those of its private scalars under a cut
 abbrev pub path_of : StaticPhase → ℕ → List PathLoop

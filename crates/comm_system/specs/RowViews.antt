@@ -25,7 +25,8 @@ condition_of r = record { terms = r.coefs; bound = r.bound }
 
 -- an unknown lies within these bounds
 abbrev pub bounds_have : ℕ → ℤ × ℤ → List Constraint
-bounds_have n (low, high) = record { terms = (n, pos 1) ∷ []; bound = high } ∷ record { terms = (n, negsuc 0) ∷ []; bound = neg_ℤ low } ∷ []
+bounds_have n (low, high) = record { terms = (n, pos 1) ∷ []; bound = high }
+    ∷ record { terms = (n, negsuc 0) ∷ []; bound = neg_ℤ low } ∷ []
 
 -- a free subscript
 abbrev pub free_at : ℕ → Sum

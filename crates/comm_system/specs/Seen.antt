@@ -11,7 +11,13 @@ use Rattle.comm_system.specs.declared.place.Place.{Place}
 
 -- what is accessed at a place
 abbrev pub referred : Place → Bool → Loaded → Reference
-referred place stores what = record { what = what; stores = stores; around = heads_of place.around.now; guard = option_copied place.guard; line = place.line }
+referred place stores what = record {
+  what = what;
+  stores = stores;
+  around = heads_of place.around.now;
+  guard = option_copied place.guard;
+  line = place.line;
+}
 
 abbrev pub pair_of : Held → Held → Pair
 pair_of a b = record { first = reference_seen a; second = reference_seen b }

@@ -36,7 +36,10 @@ is_own_in cut s r = is_private_in cut s r || is_summed cut s.what (variable_of r
 abbrev pub shown_among : (privates taken : List ℕ) → List Reference → List Reference
 shown_among privates taken [] = []
 shown_among privates taken (r ∷ rest) =
-    if is_among privates (variable_of r.what) then (if is_among taken (variable_of r.what) then shown_among privates taken rest else r ∷ shown_among privates (taken ++ variable_of r.what ∷ []) rest)
+    if is_among privates (variable_of r.what)
+    then (if is_among taken (variable_of r.what)
+    then shown_among privates taken rest
+    else r ∷ shown_among privates (taken ++ variable_of r.what ∷ []) rest)
     else r ∷ shown_among privates taken rest
 
 -- those of a phase, in text order; and those of other scalars than its own

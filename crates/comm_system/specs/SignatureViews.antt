@@ -19,11 +19,13 @@ pub record HasSeen (kinds : List Kind) (boundaries : List Boundary) (seen : Seen
   pub barrier : seen.barrier ≡ list_any (λ u. is_barrier (kind_at kinds u)) boundaries
   pub left : seen.left ≡ sum_by (λ u. left_waits (kind_at kinds u)) boundaries
   pub right : seen.right ≡ sum_by (λ u. right_waits (kind_at kinds u)) boundaries
-  pub producers : map producer_seen seen.producers.items ≡ flat_map (λ (u : Boundary). producers_at u.side (kind_at kinds u)) boundaries
+  pub producers : map producer_seen seen.producers.items
+      ≡ flat_map (λ (u : Boundary). producers_at u.side (kind_at kinds u)) boundaries
 
 -- a kind more, in front of a boundary on this side
 pub record Adds (kind : Kind) (side : Side) (old new : Seen) : Type 0 where
   pub barrier : new.barrier ≡ (old.barrier || is_barrier kind)
   pub left : new.left ≡ old.left + left_waits kind
   pub right : new.right ≡ old.right + right_waits kind
-  pub producers : map producer_seen new.producers.items ≡ map producer_seen old.producers.items ++ producers_at (side_seen side) kind
+  pub producers : map producer_seen new.producers.items
+      ≡ map producer_seen old.producers.items ++ producers_at (side_seen side) kind

@@ -72,5 +72,6 @@ counted Five n = n
 abbrev pub signature_of : Version → List Kind → List Boundary → Signature
 signature_of version kinds boundaries =
     if list_any (λ u. is_barrier (kind_at kinds u)) boundaries then blocked
-    else waits (counted version (sum_by (λ u. left_waits (kind_at kinds u)) boundaries)) (counted version (sum_by (λ u. right_waits (kind_at kinds u)) boundaries))
+    else waits (counted version (sum_by (λ u. left_waits (kind_at kinds u)) boundaries))
+    (counted version (sum_by (λ u. right_waits (kind_at kinds u)) boundaries))
     (last_three (flat_map (λ (u : Boundary). producers_at u.side (kind_at kinds u)) boundaries))

@@ -6,7 +6,13 @@ use Rattle.comm_system.specs.PhaseViews.{phase_seen}
 use Rattle.comm_system.specs.declared.slot.Slot.{Slot as Held}
 
 abbrev pub slot_seen : Held → Slot
-slot_seen x = record { s = x.s; first = phase_seen x.first.now; t = x.t; second = phase_seen x.second.now; level = x.level }
+slot_seen x = record {
+  s = x.s;
+  first = phase_seen x.first.now;
+  t = x.t;
+  second = phase_seen x.second.now;
+  level = x.level;
+}
 
 -- the same phases at another level
 abbrev pub at_level : Slot → ℕ → Slot

@@ -19,10 +19,12 @@ path_loop_seen p = record { store = reference_seen p.store.now; outside = p.outs
 
 abbrev pub subject_seen : HeldSubject → Subject
 subject_seen (Trips phase a b) = of_trips (phase_seen phase.now) (pair_of a.now b.now)
-subject_seen (Slot slot waits a b) = of_slot (slot_seen slot) waits.left waits.right (map producer_seen waits.producers.items) (pair_of a.now b.now)
+subject_seen (Slot slot waits a b) = of_slot (slot_seen slot) waits.left waits.right
+    (map producer_seen waits.producers.items) (pair_of a.now b.now)
 subject_seen (ZeroTrip p) = of_path (path_loop_seen p)
 
 -- a pair of accesses there
 abbrev pub subject_at : Scene → Pair → Subject
 subject_at (InTrips phase) pair = of_trips (phase_seen phase.now) pair
-subject_at (AtSlot slot waits) pair = of_slot (slot_seen slot) waits.now.left waits.now.right (map producer_seen waits.now.producers.items) pair
+subject_at (AtSlot slot waits) pair = of_slot (slot_seen slot) waits.now.left waits.now.right
+    (map producer_seen waits.now.producers.items) pair

@@ -24,7 +24,8 @@ pub data Subject : Type 0 where
 
 abbrev pub tasks_about : Tree → Plan → Subject → List Task
 tasks_about tree plan (of_trips s pair) = trips_task tree plan s pair ∷ []
-tasks_about tree plan (of_slot slot left right producers pair) = pair_tasks tree plan slot left right producers pair
+tasks_about tree plan (of_slot slot left right producers pair) =
+    pair_tasks tree plan slot left right producers pair
 tasks_about tree plan (of_path p) = zero_trip_task tree plan p ∷ []
 
 -- how many systems it has
@@ -35,11 +36,13 @@ count_about (of_path p) = 1
 
 -- the subjects of a Doall phase, and of a slot, of which the kinds show only its signature
 abbrev pub trips_subjects : Plan → StaticPhase → List Subject
-trips_subjects plan s = if is_dealt plan.cut.marks s.what then map (of_trips s) (pairs_within plan.cut s) else []
+trips_subjects plan s =
+    if is_dealt plan.cut.marks s.what then map (of_trips s) (pairs_within plan.cut s) else []
 
 abbrev pub slot_subjects : Cutting → Slot → Signature → List Subject
 slot_subjects cut slot blocked = []
-slot_subjects cut slot (waits left right producers) = map (of_slot slot left right producers) (pairs_of cut slot.first slot.second)
+slot_subjects cut slot (waits left right producers) =
+    map (of_slot slot left right producers) (pairs_of cut slot.first slot.second)
 
 -- those of the path of a scalar in a phase, and of the paths of its private scalars
 abbrev pub path_subjects : StaticPhase → ℕ → List Subject
@@ -51,7 +54,9 @@ paths_subjects cut s = map of_path (paths_of cut s)
 -- all of a plan with these static phases, and all of a plan
 abbrev pub subjects_among : Plan → List StaticPhase → List Subject
 subjects_among plan phases =
-    flat_map (trips_subjects plan) phases ++ flat_map (λ slot. slot_subjects plan.cut slot (slot_signature plan.version plan.kinds phases slot)) (slots_of phases)
+    flat_map (trips_subjects plan) phases ++ flat_map
+    (λ slot. slot_subjects plan.cut slot (slot_signature plan.version plan.kinds phases slot))
+    (slots_of phases)
     ++ flat_map (paths_subjects plan.cut) phases
 
 abbrev pub subjects_of : Tree → Plan → List Subject
@@ -72,7 +77,12 @@ pub record Listed : Type 0 where
 
 -- one subject more, unless the systems before it pass a number
 abbrev pub with_subject : ℕ → Listed → Subject → Listed
-with_subject most l s = if nat_le l.next most then record { groups = l.groups ++ record { number = l.next; subject = s } ∷ []; next = l.next + count_about s } else l
+with_subject most l s = if nat_le l.next most
+    then record {
+      groups = l.groups ++ record { number = l.next; subject = s } ∷ [];
+      next = l.next + count_about s;
+    }
+    else l
 
 abbrev pub with_subjects : ℕ → Listed → List Subject → Listed
 with_subjects most l [] = l
@@ -80,7 +90,8 @@ with_subjects most l (s ∷ rest) = with_subjects most (with_subject most l s) r
 
 -- the groups whose first systems have at most this number
 abbrev pub groups_among : Plan → List StaticPhase → ℕ → Listed
-groups_among plan phases most = with_subjects most (record { groups = []; next = 1 }) (subjects_among plan phases)
+groups_among plan phases most =
+    with_subjects most (record { groups = []; next = 1 }) (subjects_among plan phases)
 
 abbrev pub groups_of : Tree → Plan → ℕ → Listed
 groups_of tree plan most = groups_among plan (phases_of tree plan.cut.marks) most

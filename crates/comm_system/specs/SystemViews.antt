@@ -31,29 +31,57 @@ abbrev pub grown : List Constraint → Growing → Growing
 grown more g = record { shared = g.shared; last = g.last ++ more; columns = g.columns }
 
 -- the system of a pair without its last rows, the owners' unknowns, and these with their rounds
-pub record IsShared (tree : Tree) (plan : Plan) (slot : Slot) (producers : List (Anchor × Side)) (pair : Pair) (shared : Shared) : Type 0 where
+pub record IsShared (tree : Tree) (plan : Plan) (slot : Slot) (producers : List (Anchor × Side))
+    (pair : Pair) (shared : Shared) : Type 0 where
   pub system : shared.system ≡ shared_system tree plan slot producers pair
-  pub owners : shared.owners.items ≡ owner_numbers (behind_pair tree pair) (owners_of tree plan slot producers pair)
-  pub owned : shared.owned.items ≡ range_with_len (behind_pair tree pair) (owners_unknowns (owners_of tree plan slot producers pair))
+  pub owners : shared.owners.items ≡ owner_numbers (behind_pair tree pair)
+      (owners_of tree plan slot producers pair)
+  pub owned : shared.owned.items ≡ range_with_len (behind_pair tree pair)
+      (owners_unknowns (owners_of tree plan slot producers pair))
 
 -- an obligation, by what it speaks of and its system
 abbrev pub about : Topic → Inequalities → Obligation
-about t s = record { number = t.number; system = s; lines = t.lines; variable = t.variable; level = t.level; piece = t.piece; range = t.range }
+about t s = record {
+  number = t.number;
+  system = s;
+  lines = t.lines;
+  variable = t.variable;
+  level = t.level;
+  piece = t.piece;
+  range = t.range;
+}
 
 -- of systems that are made one at a time, that of this piece: the rows that all share, then its last rows
 abbrev pub task_at : PairSystems → ℕ → Piece → Task
 task_at p number piece =
-    record { system = with_constraints (last_of p.waits.now.left p.waits.now.right p.owners.items piece) p.system.shared; lines = p.topic.lines; variable = p.topic.variable; level = p.topic.level; piece = number; range = p.topic.range }
+    record {
+      system = with_constraints (last_of p.waits.now.left p.waits.now.right p.owners.items
+          piece) p.system.shared;
+      lines = p.topic.lines;
+      variable = p.topic.variable;
+      level = p.topic.level;
+      piece = number;
+      range = p.topic.range;
+    }
 
 abbrev pub obligations_seen : PairSystems → List Obligation
-obligations_seen p = numbered_from p.number (pieces_from (task_at p) 1 (map piece_seen p.pieces.items))
+obligations_seen p =
+    numbered_from p.number (pieces_from (task_at p) 1 (map piece_seen p.pieces.items))
 
 abbrev pub last_made : PairSystems → Obligation
 last_made p = about p.topic (whole_of p.system)
 
 -- what stands there while none of them does: it has the number of the first, no piece, and the rows that all share
 abbrev pub none_made : PairSystems → Obligation
-none_made p = record { number = p.number; system = p.system.shared; lines = p.topic.lines; variable = p.topic.variable; level = p.topic.level; piece = 0; range = p.topic.range }
+none_made p = record {
+  number = p.number;
+  system = p.system.shared;
+  lines = p.topic.lines;
+  variable = p.topic.variable;
+  level = p.topic.level;
+  piece = 0;
+  range = p.topic.range;
+}
 
 -- the columns that are kept of each of them
 abbrev pub kept_columns : PairSystems → List ℕ

@@ -54,7 +54,8 @@ is_setting [] = false
 is_setting (x ∷ xs) = not (x == 45)
 
 -- these options, in any order, and then these settings are words of a run
-pub record IsPlainRun (os : List Given) (settings : List Text) (n : ℕ) (p : PlanChoice) (s : Style) (e : Engine) : Type 0 where
+pub record IsPlainRun (os : List Given) (settings : List Text) (n : ℕ) (p : PlanChoice) (s : Style)
+    (e : Engine) : Type 0 where
   pub once : each_once [] os ≡ true
   pub values : list_all (λ o. value_ok o.0 o.1) os ≡ true
   pub settings_ok : list_all is_setting settings ≡ true
@@ -65,25 +66,31 @@ pub record IsPlainRun (os : List Given) (settings : List Text) (n : ℕ) (p : Pl
   pub few : length settings < 2 ^ 64
 
 abbrev pub EveryPlainRunIsTaken : Type 0
-EveryPlainRunIsTaken = (os : List Given) (settings : List Text) (n : ℕ) (p : PlanChoice) (s : Style) (e : Engine) → IsPlainRun os settings n p s e
+EveryPlainRunIsTaken = (os : List Given) (settings : List Text) (n : ℕ) (p : PlanChoice) (s : Style)
+    (e : Engine) → IsPlainRun os settings n p s e
     → Takes (codes "run" ∷ (written os ++ settings)) (run n p e settings)
 
 abbrev pub EveryPlainSequentialIsTaken : Type 0
-EveryPlainSequentialIsTaken = (settings : List Text) → list_all is_setting settings ≡ true → length settings < 2 ^ 64
+EveryPlainSequentialIsTaken =
+    (settings : List Text) → list_all is_setting settings ≡ true → length settings < 2 ^ 64
     → Takes (codes "seq" ∷ settings) (sequential settings)
 
 abbrev pub EveryPlainVerifyIsTaken : Type 0
-EveryPlainVerifyIsTaken = (settings : List Text) → list_all is_setting settings ≡ true → length settings < 2 ^ 64
+EveryPlainVerifyIsTaken =
+    (settings : List Text) → list_all is_setting settings ≡ true → length settings < 2 ^ 64
     → Takes (codes "verify" ∷ settings) (verify settings)
 
 abbrev pub EveryPlainSweepIsTaken : Type 0
-EveryPlainSweepIsTaken = (word : Text) (s : Sweep) (settings : List Text) → sweep_at word ≡ Some s → list_all is_setting settings ≡ true → length settings < 2 ^ 64
+EveryPlainSweepIsTaken = (word : Text) (s : Sweep) (settings : List Text) → sweep_at word ≡ Some s
+    → list_all is_setting settings ≡ true → length settings < 2 ^ 64
     → Takes (codes "verify" ∷ codes "--sweep" ∷ word ∷ settings) (swept s settings)
 
 abbrev pub EveryPlainPlanIsTaken : Type 0
-EveryPlainPlanIsTaken = (number : Text) (settings : List Text) (n : ℕ) → workers_of number ≡ Some n → list_all is_setting settings ≡ true → length settings < 2 ^ 64
+EveryPlainPlanIsTaken = (number : Text) (settings : List Text) (n : ℕ) → workers_of number ≡ Some n
+    → list_all is_setting settings ≡ true → length settings < 2 ^ 64
     → Takes (codes "plan" ∷ codes "--workers" ∷ number ∷ settings) (planned n settings)
 
 abbrev pub EveryPlainBenchIsTaken : Type 0
-EveryPlainBenchIsTaken = (number points sweeps : Text) (n p s : ℕ) → workers_of number ≡ Some n → size_of 1 500000 points ≡ Some p → size_of 0 1000000 sweeps ≡ Some s
+EveryPlainBenchIsTaken = (number points sweeps : Text) (n p s : ℕ) → workers_of number ≡ Some n
+    → size_of 1 500000 points ≡ Some p → size_of 0 1000000 sweeps ≡ Some s
     → Takes (codes "bench" ∷ codes "--workers" ∷ number ∷ points ∷ sweeps ∷ []) (bench n p s)

@@ -23,7 +23,9 @@ is_memory _ = false
 
 -- what an error of `clap` is here, by its kind
 abbrev pub refusal_by : ErrorKind → Error → Refused
-refusal_by kind error = if is_memory kind then refused.NoMemory else (if is_shown kind then refused.Shown error else refused.Faulty)
+refusal_by kind error = if is_memory kind
+    then refused.NoMemory
+    else (if is_shown kind then refused.Shown error else refused.Faulty)
 
 abbrev pub refusal_of : Error → Refused
 refusal_of error = refusal_by (kind_of error) error

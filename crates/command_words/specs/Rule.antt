@@ -22,14 +22,18 @@ abbrev pub seq_app : App
 seq_app = with_rule (new_app (codes "seq")) settings_rule
 
 abbrev pub verify_app : App
-verify_app = with_rule (with_rule (new_app (codes "verify")) (option_rule (codes "sweep"))) settings_rule
+verify_app =
+    with_rule (with_rule (new_app (codes "verify")) (option_rule (codes "sweep"))) settings_rule
 
 abbrev pub plan_app : App
-plan_app = with_rule (with_rule (new_app (codes "plan")) (required_rule (codes "workers"))) settings_rule
+plan_app =
+    with_rule (with_rule (new_app (codes "plan")) (required_rule (codes "workers"))) settings_rule
 
 abbrev pub run_app : App
-run_app = with_rule (with_rule (with_rule (with_rule (with_rule (new_app (codes "run")) (required_rule (codes "workers")))
-    (option_rule (codes "plan"))) (option_rule (codes "by"))) (option_rule (codes "barrier"))) settings_rule
+run_app = with_rule (with_rule (with_rule
+    (with_rule (with_rule (new_app (codes "run")) (required_rule (codes "workers")))
+    (option_rule (codes "plan"))) (option_rule (codes "by"))) (option_rule (codes "barrier")))
+    settings_rule
 
 -- words behind the options: how many points, and how many sweeps
 abbrev pub sizes_rule : Rule
@@ -39,7 +43,8 @@ sizes_rule = record (new_rule (codes "sizes")) {
 }
 
 abbrev pub bench_app : App
-bench_app = with_rule (with_rule (new_app (codes "bench")) (required_rule (codes "workers"))) sizes_rule
+bench_app =
+    with_rule (with_rule (new_app (codes "bench")) (required_rule (codes "workers"))) sizes_rule
 
 abbrev pub top_shape : Shape
 top_shape = record (new_app (codes "seagrynt")).top {
@@ -50,4 +55,6 @@ top_shape = record (new_app (codes "seagrynt")).top {
 }
 
 abbrev pub tool_app : App
-tool_app = with_subcommand (with_subcommand (with_subcommand (with_subcommand (with_subcommand (record { top = top_shape; subs = [] }) seq_app.top) plan_app.top) run_app.top) verify_app.top) bench_app.top
+tool_app = with_subcommand (with_subcommand
+    (with_subcommand (with_subcommand (with_subcommand (record { top = top_shape; subs = [] })
+    seq_app.top) plan_app.top) run_app.top) verify_app.top) bench_app.top

@@ -19,7 +19,9 @@ abbrev pub are_bounds : ℤ → ℤ → Bool
 are_bounds low high = int_le low high && int_lt (high -ℤ low) (pos 1000)
 
 abbrev pub sweep_with : Text × ℤ → ℤ → Option Sweep
-sweep_with lowest high = if are_bounds lowest.1 high then Some (record { name = lowest.0; low = lowest.1; high = high }) else None
+sweep_with lowest high = if are_bounds lowest.1 high
+    then Some (record { name = lowest.0; low = lowest.1; high = high })
+    else None
 
 -- from the value of a setting to the one that a text writes
 abbrev pub sweep_between : Text × ℤ → Text → Option Sweep
@@ -30,4 +32,5 @@ is_colon c = c == 58
 
 -- a setting with the lowest value, and the highest value behind the first `:`
 abbrev pub sweep_at : Text → Option Sweep
-sweep_at t = option_and_then (λ lowest. sweep_between lowest (after_first is_colon t)) (setting_at (before_first is_colon t))
+sweep_at t = option_and_then (λ lowest. sweep_between lowest (after_first is_colon t))
+    (setting_at (before_first is_colon t))

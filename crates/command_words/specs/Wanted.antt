@@ -47,7 +47,8 @@ is_digit d = nat_le 48 d && nat_le d 57
 abbrev pub workers_of : Text → Option ℕ
 workers_of [] = None
 workers_of (d ∷ []) = if is_digit d then within (d - 48) else None
-workers_of (c ∷ d ∷ []) = if nat_le 49 c && (nat_le c 57 && is_digit d) then within (10 * (c - 48) + (d - 48)) else None
+workers_of (c ∷ d ∷ []) =
+    if nat_le 49 c && (nat_le c 57 && is_digit d) then within (10 * (c - 48) + (d - 48)) else None
 workers_of (c ∷ d ∷ e ∷ rest) = None
 
 abbrev pub plan_of : Text → Option PlanChoice
@@ -88,7 +89,8 @@ is_numeral (c ∷ cs) = list_all is_ascii_digit (c ∷ cs) && (not (c == 48) || 
 
 -- the number that a text writes so, where it lies within these bounds
 abbrev pub size_of : ℕ → ℕ → Text → Option ℕ
-size_of low high t = if is_numeral t && (nat_le low (digits_value 10 t) && nat_le (digits_value 10 t) high) then Some (digits_value 10 t) else None
+size_of low high t = if is_numeral t && (nat_le low (digits_value 10 t)
+    && nat_le (digits_value 10 t) high) then Some (digits_value 10 t) else None
 
 -- the words behind the options
 abbrev pub rest_of : Text → List Row → List Text
@@ -109,10 +111,13 @@ abbrev pub verify_of : List Row → Option Wanted
 verify_of rows = verify_with (settings_of rows) (first_of (codes "sweep") rows)
 
 abbrev pub make_of : List Row → Option Wanted
-make_of rows = option_map (λ n. planned n (settings_of rows)) (option_and_then workers_of (first_of (codes "workers") rows))
+make_of rows = option_map (λ n. planned n (settings_of rows))
+    (option_and_then workers_of (first_of (codes "workers") rows))
 
 abbrev pub run_of : List Row → Option Wanted
-run_of rows = option_and_then (λ n. option_and_then (λ p. option_and_then (λ s. option_map (λ e. run n p e (settings_of rows)) (by_of s (first_of (codes "by") rows)))
+run_of rows = option_and_then (λ n. option_and_then
+    (λ p. option_and_then (λ s. option_map (λ e. run n p e (settings_of rows))
+    (by_of s (first_of (codes "by") rows)))
     (barrier_of (first_of (codes "barrier") rows)))
     (choice_of (first_of (codes "plan") rows)))
     (option_and_then workers_of (first_of (codes "workers") rows))
@@ -121,11 +126,13 @@ run_of rows = option_and_then (λ n. option_and_then (λ p. option_and_then (λ 
 abbrev pub sizes_named : List Text → Option (ℕ × ℕ)
 sizes_named [] = None
 sizes_named (n ∷ []) = None
-sizes_named (n ∷ m ∷ []) = option_and_then (λ points. option_map (λ sweeps. (points, sweeps)) (size_of 0 1000000 m)) (size_of 1 500000 n)
+sizes_named (n ∷ m ∷ []) = option_and_then
+    (λ points. option_map (λ sweeps. (points, sweeps)) (size_of 0 1000000 m)) (size_of 1 500000 n)
 sizes_named (n ∷ m ∷ k ∷ rest) = None
 
 abbrev pub bench_of : List Row → Option Wanted
-bench_of rows = option_and_then (λ n. option_map (λ s. bench n s.0 s.1) (sizes_named (sizes_of rows))) (option_and_then workers_of (first_of (codes "workers") rows))
+bench_of rows = option_and_then (λ n. option_map (λ s. bench n s.0 s.1)
+    (sizes_named (sizes_of rows))) (option_and_then workers_of (first_of (codes "workers") rows))
 
 abbrev pub wanted_in : Text → List Row → Option Wanted
 wanted_in name rows = if bytes_eq name (codes "bench") then bench_of rows
@@ -144,7 +151,8 @@ IsCounted (verify settings) = ⊤
 IsCounted (swept s settings) = IsTrue (are_bounds s.low s.high)
 IsCounted (planned workers settings) = (1 ≤ workers) × (workers ≤ 64)
 IsCounted (run workers choice by settings) = (1 ≤ workers) × (workers ≤ 64)
-IsCounted (bench workers points sweeps) = ((1 ≤ workers) × (workers ≤ 64)) × (((1 ≤ points) × (points ≤ 500000)) × (sweeps ≤ 1000000))
+IsCounted (bench workers points sweeps) =
+    ((1 ≤ workers) × (workers ≤ 64)) × (((1 ≤ points) × (points ≤ 500000)) × (sweeps ≤ 1000000))
 
 -- The words are taken, as this request.
 abbrev pub Takes : List Text → Wanted → Type 0
@@ -167,7 +175,8 @@ has_bad_sweep (Some (name, rows)) = bytes_eq name (codes "verify") && is_none (v
 
 -- The rule takes the words, but a sweep among them is none.
 abbrev pub has_wrong_sweep : List Text → Bool
-has_wrong_sweep words = is_fine (fault_of tool_app words) && has_bad_sweep (subcommand_of tool_app words)
+has_wrong_sweep words =
+    is_fine (fault_of tool_app words) && has_bad_sweep (subcommand_of tool_app words)
 
 -- The words ask for help or for the version.
 abbrev pub asks_to_show : List Text → Bool
@@ -175,4 +184,5 @@ asks_to_show words = list_any is_shown (fault_of tool_app words)
 
 -- The words are none that is offered: the rule does not take them, nor do they ask for help or for the version, or a value is none that is offered.
 abbrev pub AreFaulty : List Text → Type 0
-AreFaulty words = (asks_to_show words ≡ false) × ((fault_of tool_app words ≢ []) ⊎ (wanted_by (subcommand_of tool_app words) ≡ None))
+AreFaulty words = (asks_to_show words ≡ false)
+    × ((fault_of tool_app words ≢ []) ⊎ (wanted_by (subcommand_of tool_app words) ≡ None))

@@ -18,13 +18,16 @@ pub record StaticPhase : Type 0 where
 abbrev mutual
   pub phases_in : (ℕ → Bool) → List Head → Statement → List StaticPhase
   phases_in enters outer (do_loop head body) =
-      if enters head.number then phases_among enters (outer ++ head ∷ []) body else record { what = do_loop head body; outer = outer } ∷ []
+      if enters head.number
+      then phases_among enters (outer ++ head ∷ []) body
+      else record { what = do_loop head body; outer = outer } ∷ []
   phases_in enters outer (work w) = record { what = work w; outer = outer } ∷ []
   phases_in enters outer (continue line) = []
 
   pub phases_among : (ℕ → Bool) → List Head → Statements → List StaticPhase
   phases_among enters outer done = []
-  phases_among enters outer (next s rest) = phases_in enters outer s ++ phases_among enters outer rest
+  phases_among enters outer (next s rest) =
+      phases_in enters outer s ++ phases_among enters outer rest
 
 -- the one with number u, from 1, stands at u - 1
 abbrev pub phases_of : Tree → List Mark → List StaticPhase
@@ -39,11 +42,18 @@ pub record Reference : Type 0 where
   pub line : ℕ
 
 abbrev pub reference_of : Nested → Bool → Loaded → Reference
-reference_of n stores what = record { what = what; stores = stores; around = n.around; guard = guard_of n.what; line = line_of_work n.what }
+reference_of n stores what = record {
+  what = what;
+  stores = stores;
+  around = n.around;
+  guard = guard_of n.what;
+  line = line_of_work n.what;
+}
 
 -- those of a piece of work: its loads in text order, then its store
 abbrev pub references_in : Nested → List Reference
-references_in n = map (reference_of n false) (loaded_in_work n.what) ++ map (λ a. reference_of n true (element a)) (stores_in n.what)
+references_in n = map (reference_of n false) (loaded_in_work n.what)
+    ++ map (λ a. reference_of n true (element a)) (stores_in n.what)
 
 -- the accesses of a phase, in text order
 abbrev pub references_of : StaticPhase → List Reference

@@ -12,4 +12,10 @@ target_seen (Element access) = element access.now
 target_seen (Whole variable) = array variable
 
 abbrev pub reference_seen : Held → Reference
-reference_seen r = record { what = target_seen r.target; stores = r.stores; around = heads_of r.around.items; guard = option_copied r.guard; line = r.line }
+reference_seen r = record {
+  what = target_seen r.target;
+  stores = r.stores;
+  around = heads_of r.around.items;
+  guard = option_copied r.guard;
+  line = r.line;
+}

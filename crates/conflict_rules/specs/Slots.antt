@@ -15,4 +15,5 @@ pub record Slot : Type 0 where
 -- the boundary in front of this phase is one of those on this side
 abbrev pub is_certain : Side → Slot → ℕ → List Head → Bool
 is_certain of_first x u outer = is_behind_first x.first.outer x.s x.t x.level u outer
-is_certain of_second x u outer = is_before_second x.first.outer x.second.outer x.s x.t x.level u outer
+is_certain of_second x u outer =
+    is_before_second x.first.outer x.second.outer x.s x.t x.level u outer

@@ -31,11 +31,13 @@ pub record IsOpposed (variable : ℕ) (upper lower : Row) : Type 0 where
 
 -- the least combination of the two rows is nowhere wide
 pub record IsNarrowPair (variable : ℕ) (upper lower : Row) : Type 0 where
-  pub narrow : (m n : ℤ) → IsPair variable upper lower m n → IsNarrow (length upper.coefs) m upper n lower
+  pub narrow : (m n : ℤ) → IsPair variable upper lower m n
+      → IsNarrow (length upper.coefs) m upper n lower
 
 -- it is wide somewhere
 abbrev pub IsTooWide : ℕ → Row → Row → Type 0
-IsTooWide variable upper lower = (m : ℤ) × (n : ℤ) × IsPair variable upper lower m n × IsWide (length upper.coefs) m upper n lower
+IsTooWide variable upper lower = (m : ℤ) × (n : ℤ) × IsPair variable upper lower m n
+    × IsWide (length upper.coefs) m upper n lower
 
 -- the raw row is the least combination of the two rows
 pub record IsPaired (variable : ℕ) (upper lower raw : Row) : Type 0 where
@@ -49,7 +51,8 @@ pub record IsMade (variable : ℕ) (upper lower : Held) (candidate : Candidate) 
   pub raw : Row
   pub paired : IsPaired variable upper.row lower.row raw
   pub reduced : IsReduced raw candidate.row
-  pub founded : (system : Inequalities) (log : List Derivation) → IsHeld system log upper → IsHeld system log lower → IsFounded system log candidate
+  pub founded : (system : Inequalities) (log : List Derivation) → IsHeld system log upper
+      → IsHeld system log lower → IsFounded system log candidate
 
 -- a row that is held already, as a candidate
 abbrev pub candidate_of : Held → Candidate
@@ -66,11 +69,13 @@ pub record IsSplit (variable : ℕ) (level uppers lowers : List Held) : Type 0 w
 
 -- how many pairs the rows have of one that bounds the variable from above and one that bounds it from below
 abbrev pub pair_count : ℕ → List Held → ℕ
-pair_count variable level = length (filter (λ h. int_lt (pos 0) (coef_of variable h.row)) level) * length (filter (λ h. int_lt (coef_of variable h.row) (pos 0)) level)
+pair_count variable level = length (filter (λ h. int_lt (pos 0) (coef_of variable h.row)) level)
+    * length (filter (λ h. int_lt (coef_of variable h.row) (pos 0)) level)
 
 -- the rows have what the pair makes
 abbrev pub CoversPair : ℕ → List Row → Row → Row → Type 0
-CoversPair variable rows upper lower = (raw : Row) → IsPaired variable upper lower raw → (row : Row) × IsReduced raw row × Covers rows row
+CoversPair variable rows upper lower = (raw : Row) → IsPaired variable upper lower raw
+    → (row : Row) × IsReduced raw row × Covers rows row
 
 -- more than so many candidates in the set have coefficients of their own
 pub record HasApart (limit : ℕ) (set : Candidate → Type 0) : Type 0 where
@@ -81,23 +86,29 @@ pub record HasApart (limit : ℕ) (set : Candidate → Type 0) : Type 0 where
 
 -- an old candidate, or made of the upper row and one of the lower ones
 abbrev pub IsJoint : ℕ → Held → List Held → List Candidate → Candidate → Type 0
-IsJoint variable upper lowers old c = Contains old c ⊎ (IsUseful c.row × ((lower : Held) × Contains lowers lower × IsMade variable upper lower c))
+IsJoint variable upper lowers old c = Contains old c
+    ⊎ (IsUseful c.row × ((lower : Held) × Contains lowers lower × IsMade variable upper lower c))
 
 -- the pairs of one upper row were joined to the old candidates
-pub record IsJoined (variable : ℕ) (upper : Held) (lowers : List Held) (old new : List Candidate) : Type 0 where
+pub record IsJoined (variable : ℕ) (upper : Held) (lowers : List Held) (old new : List Candidate) :
+    Type 0 where
   pub only : All (IsJoint variable upper lowers old) new
   pub keeps : (row : Row) → Covers (rows_among old) row → Covers (rows_among new) row
   pub pairs : All (λ l. CoversPair variable (rows_among new) upper.row l.row) lowers
 
 -- a row without the variable, or made of an upper and a lower row
 abbrev pub IsSource : ℕ → List Held → List Held → List Held → Candidate → Type 0
-IsSource variable apart uppers lowers c = IsUseful c.row × (Contains (map candidate_of apart) c ⊎ ((upper : Held) × (lower : Held) × Contains uppers upper × Contains lowers lower × IsMade variable upper lower c))
+IsSource variable apart uppers lowers c = IsUseful c.row
+    × (Contains (map candidate_of apart) c ⊎ ((upper : Held) × (lower : Held)
+    × Contains uppers upper × Contains lowers lower × IsMade variable upper lower c))
 
 -- the candidates come of the rows without the variable and of the pairs, and cover them all
-pub record IsGathered (variable : ℕ) (apart uppers lowers : List Held) (candidates : List Candidate) : Type 0 where
+pub record IsGathered (variable : ℕ) (apart uppers lowers : List Held)
+    (candidates : List Candidate) : Type 0 where
   pub only : All (IsSource variable apart uppers lowers) candidates
   pub carried : All (λ h. Covers (rows_among candidates) h.row) apart
-  pub pairs : All (λ u. All (λ l. CoversPair variable (rows_among candidates) u.row l.row) lowers) uppers
+  pub pairs : All (λ u. All (λ l. CoversPair variable (rows_among candidates) u.row l.row) lowers)
+      uppers
 
 -- the candidate is the reduction of one of the raw rows, and says something
 abbrev pub IsSound : (Row → Type 0) → Candidate → Type 0
@@ -108,7 +119,8 @@ abbrev pub IsCovered : List Candidate → Row → Type 0
 IsCovered candidates raw = (row : Row) × IsReduced raw row × Covers (rows_among candidates) row
 
 -- the candidates come of raw rows, and cover these of them
-pub record AreTaken (system : Inequalities) (log : List Derivation) (raws : Row → Type 0) (rows : List Row) (candidates : List Candidate) : Type 0 where
+pub record AreTaken (system : Inequalities) (log : List Derivation) (raws : Row → Type 0)
+    (rows : List Row) (candidates : List Candidate) : Type 0 where
   pub sound : All (IsSound raws) candidates
   pub founded : All (IsFounded system log) candidates
   pub covered : All (IsCovered candidates) rows

@@ -42,10 +42,12 @@ pub record IsSuited (vars : ℕ) (row : Row) : Type 0 where
 -- the row has this number, or is what this derivation makes
 abbrev pub IsOrigin : Inequalities → List Derivation → Row → Origin → Type 0
 IsOrigin system log row (Numbered number) = IsNumber (all_rows system log) number row
-IsOrigin system log row (Made d) = IsGoodStep system.vars (all_rows system log) (step_of d) × (made_row system.vars (all_rows system log) (step_of d) ≡ row)
+IsOrigin system log row (Made d) = IsGoodStep system.vars (all_rows system log) (step_of d)
+    × (made_row system.vars (all_rows system log) (step_of d) ≡ row)
 
 -- a candidate that can be held
-pub record IsFounded (system : Inequalities) (log : List Derivation) (candidate : Candidate) : Type 0 where
+pub record IsFounded (system : Inequalities) (log : List Derivation) (candidate : Candidate) :
+    Type 0 where
   pub suited : IsSuited system.vars candidate.row
   pub origin : IsOrigin system log candidate.row candidate.origin
 

@@ -14,11 +14,14 @@ IsUseful row = IsEmpty row → row.bound <ℤ pos 0
 
 -- the list has a row that says as much: it has the same coefficients and no greater bound, or none is needed
 abbrev pub Covers : List Row → Row → Type 0
-Covers rows row = (IsEmpty row × (pos 0 ≤ℤ row.bound)) ⊎ ((least : Row) × Contains rows least × (least.coefs ≡ row.coefs) × (least.bound ≤ℤ row.bound))
+Covers rows row = (IsEmpty row × (pos 0 ≤ℤ row.bound))
+    ⊎ ((least : Row) × Contains rows least × (least.coefs ≡ row.coefs) × (least.bound ≤ℤ row.bound))
 
 -- the candidate was added, or left out since its row says nothing
 abbrev pub IsAdded : List Candidate → Candidate → List Candidate → Type 0
-IsAdded old candidate new = ((new ≡ old ++ candidate ∷ []) × (IsEmpty candidate.row → candidate.row.bound <ℤ pos 0)) ⊎ ((new ≡ old) × IsEmpty candidate.row × (pos 0 ≤ℤ candidate.row.bound))
+IsAdded old candidate new = ((new ≡ old ++ candidate ∷ [])
+    × (IsEmpty candidate.row → candidate.row.bound <ℤ pos 0))
+    ⊎ ((new ≡ old) × IsEmpty candidate.row × (pos 0 ≤ℤ candidate.row.bound))
 
 -- the rows of candidates
 abbrev pub rows_among : List Candidate → List Row

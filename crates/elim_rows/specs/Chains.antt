@@ -5,7 +5,8 @@ use Rattle.elim_rows.specs.declared.chains.Link.{Link}
 
 -- a hash with one coefficient more
 abbrev pub mixed : ℕ → ℤ → ℕ
-mixed hash coef = (hash + cast_unsigned w128 coef) % 2 ^ 128 * 47026247687942121848144207491837523525 % 2 ^ 128
+mixed hash coef =
+    (hash + cast_unsigned w128 coef) % 2 ^ 128 * 47026247687942121848144207491837523525 % 2 ^ 128
 
 abbrev pub hash_from : ℕ → List ℤ → ℕ
 hash_from hash [] = hash
@@ -34,5 +35,8 @@ pub record IsNewest (links : List Link) (places place end number : ℕ) : Type 0
 -- each place leads to its last row, and each row to the one before it with the same place
 pub record AreChained (links : List Link) (latest : List ℕ) : Type 0 where
   pub some : 0 < length latest
-  pub lasts : (place : ℕ) → place < length latest → IsNewest links (length latest) place (length links) (slice_index_or latest place 0)
-  pub befores : (k : ℕ) → k < length links → IsNewest links (length latest) (place_of (length latest) (link_at links k).hash) k (link_at links k).earlier
+  pub lasts : (place : ℕ) → place < length latest
+      → IsNewest links (length latest) place (length links) (slice_index_or latest place 0)
+  pub befores : (k : ℕ) → k < length links
+      → IsNewest links (length latest) (place_of (length latest) (link_at links k).hash) k
+      (link_at links k).earlier

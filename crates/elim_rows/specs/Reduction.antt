@@ -14,7 +14,10 @@ IsCommonDivisor coefs g = DividesEach g coefs × ((d : ℕ) → DividesEach d co
 
 -- the row divided by d, which divides its coefficients: the bound is rounded down
 abbrev pub divided : ℕ → Row → Row
-divided d row = record { coefs = map (λ a. int_div a (pos d)) row.coefs; bound = int_div_euclid row.bound (pos d) }
+divided d row = record {
+  coefs = map (λ a. int_div a (pos d)) row.coefs;
+  bound = int_div_euclid row.bound (pos d);
+}
 
 -- the row is the raw one, reduced by g, the greatest common divisor of its coefficients (by 1 where all are 0)
 abbrev pub IsReducedBy : ℕ → Row → Row → Type 0
@@ -25,9 +28,11 @@ abbrev pub IsReduced : Row → Row → Type 0
 IsReduced raw row = (g : ℕ) × IsReducedBy g raw row
 
 -- 4 * i - 6 * j <= 3, halved, is 2 * i - 3 * j <= 1
-pub divided-example : divided 2 (record { coefs = pos 4 ∷ negsuc 5 ∷ []; bound = pos 3 }) ≡ record { coefs = pos 2 ∷ negsuc 2 ∷ []; bound = pos 1 }
+pub divided-example : divided 2 (record { coefs = pos 4 ∷ negsuc 5 ∷ []; bound = pos 3 })
+    ≡ record { coefs = pos 2 ∷ negsuc 2 ∷ []; bound = pos 1 }
 divided-example = refl
 
 -- - 2 * i <= - 1, halved, is - i <= - 1
-pub divided-below_zero : divided 2 (record { coefs = negsuc 1 ∷ []; bound = negsuc 0 }) ≡ record { coefs = negsuc 0 ∷ []; bound = negsuc 0 }
+pub divided-below_zero : divided 2 (record { coefs = negsuc 1 ∷ []; bound = negsuc 0 })
+    ≡ record { coefs = negsuc 0 ∷ []; bound = negsuc 0 }
 divided-below_zero = refl

@@ -29,7 +29,8 @@ decimal ds = decimal_from 0 ds
 -- digits that stand for a value: at most 9223372036854775807, with any leading zeros
 abbrev pub is_number : List ℕ → Bool
 is_number [] = false
-is_number (d ∷ ds) = is_digit d && list_all is_digit ds && nat_le (decimal (d ∷ ds)) 9223372036854775807
+is_number (d ∷ ds) =
+    is_digit d && list_all is_digit ds && nat_le (decimal (d ∷ ds)) 9223372036854775807
 
 -- a value with so many digits
 abbrev pub digits_of : ℕ → ℕ → List ℕ

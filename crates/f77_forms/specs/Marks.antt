@@ -11,7 +11,8 @@ use Rattle.f77_forms.specs.Statements.{begins_with, digits_in, behind_digits}
 -- Blanks (32) for the characters of constants, also of one that is not closed, and for their apostrophes (39); quoted says whether the first character stands inside one.
 unfoldable pub masked : Bool → List ℕ → List ℕ
 masked quoted [] = []
-masked quoted (c ∷ cs) = (if quoted || (c == 39) then 32 else c) ∷ masked (if c == 39 then not quoted else quoted) cs
+masked quoted (c ∷ cs) =
+    (if quoted || (c == 39) then 32 else c) ∷ masked (if c == 39 then not quoted else quoted) cs
 
 -- a constant begins and ends with an apostrophe
 abbrev pub has_constant : List ℕ → Bool
@@ -39,7 +40,8 @@ is_exponent (c ∷ cs) = ((c == 69) || (c == 68)) && (begins_digit cs || begins_
 
 -- digits, and a dot or an exponent
 abbrev pub begins_real : List ℕ → Bool
-begins_real text = nat_lt 0 (length (digits_in text)) && (begins_dot (behind_digits text) || is_exponent (behind_digits text))
+begins_real text = nat_lt 0 (length (digits_in text))
+    && (begins_dot (behind_digits text) || is_exponent (behind_digits text))
 
 -- capitals and a dot
 unfoldable pub ends_dotted : List ℕ → Bool
@@ -56,7 +58,8 @@ unfoldable pub begins_mark : List ℕ → Bool
 begins_mark [] = false
 begins_mark (c ∷ []) = false
 begins_mark (c ∷ d ∷ cs) =
-    ((c == 42) && (d == 42)) || ((c == 46) && is_digit d) || ((c == 46) && is_dotted (d ∷ cs)) || (not (is_capital_or_digit c) && begins_real (d ∷ cs))
+    ((c == 42) && (d == 42)) || ((c == 46) && is_digit d) || ((c == 46) && is_dotted (d ∷ cs))
+    || (not (is_capital_or_digit c) && begins_real (d ∷ cs))
 
 -- one of these stands somewhere in a text
 unfoldable pub holds_mark : List ℕ → Bool
@@ -122,7 +125,9 @@ looks_assigned text = begins_capital text && is_stored (behind_parentheses (behi
 
 -- one of the five operators of a comparison
 abbrev pub begins_compare : List ℕ → Bool
-begins_compare text = begins_with (codes ".LT.") text || begins_with (codes ".LE.") text || begins_with (codes ".EQ.") text || begins_with (codes ".GE.") text || begins_with (codes ".GT.") text
+begins_compare text = begins_with (codes ".LT.") text || begins_with (codes ".LE.") text
+    || begins_with (codes ".EQ.") text || begins_with (codes ".GE.") text
+    || begins_with (codes ".GT.") text
 
 -- The text in front of the first such operator, and from there on: of those that stand in the parentheses of which the last of so many open ones is the outermost, and in no inner ones.
 unfoldable pub before_compare : ℕ → List ℕ → List ℕ
@@ -147,14 +152,21 @@ looks_guarded text = nat_lt 0 (length (from_compare 1 text)) && looks_assigned (
 
 -- DO without a label: a name, `=` and a comma outside
 abbrev pub looks_unlabelled : List ℕ → Bool
-looks_unlabelled text = is_name (word_in text) && begins_equals (behind_word text) && has_comma_outside 0 (tail (behind_word text))
+looks_unlabelled text = is_name (word_in text) && begins_equals (behind_word text)
+    && has_comma_outside 0 (tail (behind_word text))
 
 -- the words with which other statements of FORTRAN 77, and of its common extensions, begin
 abbrev pub other_words : List (List ℕ)
 other_words =
-    codes "IF(" ∷ codes "ELSE" ∷ codes "ENDIF" ∷ codes "ENDDO" ∷ codes "ENDFILE" ∷ codes "DOWHILE" ∷ codes "GOTO" ∷ codes "ASSIGN" ∷ codes "CALL" ∷ codes "RETURN" ∷ codes "READ" ∷ codes "WRITE"
-    ∷ codes "FORMAT" ∷ codes "DATA" ∷ codes "COMMON" ∷ codes "EQUIVALENCE" ∷ codes "SUBROUTINE" ∷ codes "FUNCTION" ∷ codes "EXTERNAL" ∷ codes "INTRINSIC" ∷ codes "SAVE" ∷ codes "IMPLICIT" ∷ codes "REAL" ∷ codes "DOUBLEPRECISION"
-    ∷ codes "COMPLEX" ∷ codes "LOGICAL" ∷ codes "CHARACTER" ∷ codes "BLOCKDATA" ∷ codes "ENTRY" ∷ codes "PAUSE" ∷ codes "OPEN" ∷ codes "CLOSE" ∷ codes "INQUIRE" ∷ codes "BACKSPACE" ∷ codes "REWIND" ∷ []
+    codes "IF(" ∷ codes "ELSE" ∷ codes "ENDIF" ∷ codes "ENDDO" ∷ codes "ENDFILE" ∷ codes "DOWHILE"
+    ∷ codes "GOTO" ∷ codes "ASSIGN" ∷ codes "CALL" ∷ codes "RETURN" ∷ codes "READ"
+    ∷ codes "WRITE"
+    ∷ codes "FORMAT" ∷ codes "DATA" ∷ codes "COMMON" ∷ codes "EQUIVALENCE" ∷ codes "SUBROUTINE"
+    ∷ codes "FUNCTION" ∷ codes "EXTERNAL" ∷ codes "INTRINSIC" ∷ codes "SAVE" ∷ codes "IMPLICIT"
+    ∷ codes "REAL" ∷ codes "DOUBLEPRECISION"
+    ∷ codes "COMPLEX" ∷ codes "LOGICAL" ∷ codes "CHARACTER" ∷ codes "BLOCKDATA" ∷ codes "ENTRY"
+    ∷ codes "PAUSE" ∷ codes "OPEN" ∷ codes "CLOSE" ∷ codes "INQUIRE" ∷ codes "BACKSPACE"
+    ∷ codes "REWIND" ∷ []
 
 -- a text begins with a word, and something stands behind it
 abbrev pub goes_on : List ℕ → List ℕ → Bool
@@ -163,7 +175,9 @@ goes_on word text = begins_with word text && nat_lt (length word) (length text)
 -- another statement by its first word, or a PRINT, STOP or INTEGER of another kind, or a DO without a label
 abbrev pub names_other : List ℕ → Bool
 names_other text =
-    list_any (λ word. begins_with word text) other_words || (goes_on (codes "PRINT") text && not (begins_with (codes "PRINT*,") text)) || goes_on (codes "STOP") text || goes_on (codes "INTEGER*") text
+    list_any (λ word. begins_with word text) other_words
+    || (goes_on (codes "PRINT") text && not (begins_with (codes "PRINT*,") text))
+    || goes_on (codes "STOP") text || goes_on (codes "INTEGER*") text
     || (begins_with (codes "DO") text && looks_unlabelled (drop 2 text))
 
 -- ---- the fault
@@ -172,37 +186,55 @@ names_other text =
 unfoldable pub is_marked : List ℕ → Bool
 is_marked text =
     if begins_with (codes "IF(") text && looks_guarded (drop 3 text)
-    then has_mark (before_compare 1 (drop 3 text)) || has_mark (drop 4 (from_compare 1 (drop 3 text)))
+    then has_mark (before_compare 1 (drop 3 text))
+    || has_mark (drop 4 (from_compare 1 (drop 3 text)))
     else has_mark text || (names_other text && not (looks_assigned text))
 
 -- a number past 9223372036854775807, behind digits that stand for `value`
 unfoldable pub holds_large : ℕ → List ℕ → Bool
 holds_large value [] = false
 holds_large value (c ∷ cs) =
-    if is_digit c then (if nat_le (10 * value + (c - 48)) 9223372036854775807 then holds_large (10 * value + (c - 48)) cs else true)
+    if is_digit c
+    then (if nat_le (10 * value + (c - 48)) 9223372036854775807
+    then holds_large (10 * value + (c - 48)) cs
+    else true)
     else holds_large 0 cs
 
 -- something that is left out: in the text outside constants, or a constant anywhere but among the items of a PRINT
 unfoldable pub is_outside_profile : List ℕ → Bool
-is_outside_profile text = (has_constant text && not (begins_with (codes "PRINT*,") text)) || is_marked (masked false text)
+is_outside_profile text =
+    (has_constant text && not (begins_with (codes "PRINT*,") text)) || is_marked (masked false text)
 
 -- the fault of a text without form: the first of these three
 unfoldable pub text_fault : List ℕ → TextFault
-text_fault text = if is_outside_profile text then NotInProfile else (if holds_large 0 (masked false text) then LiteralTooLarge else NoForm)
+text_fault text = if is_outside_profile text
+    then NotInProfile
+    else (if holds_large 0 (masked false text) then LiteralTooLarge else NoForm)
 
 -- ---- examples
 
 -- GOTO 10 and a power are left out, and the power is seen also in a text without form
-pub outside_profile-examples : list_any (λ text. not (is_outside_profile text)) (codes "GOTO10" ∷ codes "FOO**2" ∷ codes "K=1.5" ∷ codes "K=1E5" ∷ codes "K=1E+5" ∷ codes "K=1D-3" ∷ codes "K=1." ∷ codes "K=.5" ∷ codes "K=I.AND.J" ∷ codes "K='A'" ∷ codes "DOI=1,5" ∷ codes "PRINT1" ∷ codes "IF(I.NE.2)K=I" ∷ []) ≡ false
-unfolding is_outside_profile is_marked masked digits_in behind_digits holds_mark begins_mark is_exponent is_dotted ends_dotted word_in behind_word begins_equals tail behind_parentheses behind_group has_comma_outside before_compare from_compare
+pub outside_profile-examples : list_any (λ text. not (is_outside_profile text))
+    (codes "GOTO10" ∷ codes "FOO**2" ∷ codes "K=1.5" ∷ codes "K=1E5" ∷ codes "K=1E+5"
+    ∷ codes "K=1D-3" ∷ codes "K=1." ∷ codes "K=.5" ∷ codes "K=I.AND.J" ∷ codes "K='A'"
+    ∷ codes "DOI=1,5" ∷ codes "PRINT1" ∷ codes "IF(I.NE.2)K=I" ∷ []) ≡ false
+unfolding is_outside_profile is_marked masked digits_in behind_digits holds_mark begins_mark
+    is_exponent is_dotted ends_dotted word_in behind_word begins_equals tail behind_parentheses
+    behind_group has_comma_outside before_compare from_compare
 outside_profile-examples = refl
 
 -- names may hold an E and a D, a comparison its operator behind a digit, and a constant that is not closed is none
-pub no_form-examples : list_any is_outside_profile (codes "A1E5=" ∷ codes "A1E+5=" ∷ codes "K=J0." ∷ codes "LONGNAMEX=1" ∷ codes "REALNUMBER=1" ∷ codes "DO10D5=1," ∷ codes "IF(1.EQ.I)K=1+" ∷ codes "K='A" ∷ codes "READ=1+" ∷ codes "PRINT*,'A**B'+1" ∷ []) ≡ false
-unfolding is_outside_profile is_marked masked digits_in behind_digits holds_mark begins_mark is_exponent is_dotted ends_dotted word_in behind_word begins_equals tail behind_parentheses behind_group has_comma_outside before_compare from_compare
+pub no_form-examples : list_any is_outside_profile
+    (codes "A1E5=" ∷ codes "A1E+5=" ∷ codes "K=J0." ∷ codes "LONGNAMEX=1" ∷ codes "REALNUMBER=1"
+    ∷ codes "DO10D5=1," ∷ codes "IF(1.EQ.I)K=1+" ∷ codes "K='A" ∷ codes "READ=1+"
+    ∷ codes "PRINT*,'A**B'+1" ∷ []) ≡ false
+unfolding is_outside_profile is_marked masked digits_in behind_digits holds_mark begins_mark
+    is_exponent is_dotted ends_dotted word_in behind_word begins_equals tail behind_parentheses
+    behind_group has_comma_outside before_compare from_compare
 no_form-examples = refl
 
 -- a number is looked for also behind letters
 pub large-example : text_fault (codes "FOO9223372036854775808") ≡ LiteralTooLarge
-unfolding text_fault is_outside_profile is_marked masked digits_in holds_mark begins_mark holds_large
+unfolding text_fault is_outside_profile is_marked masked digits_in holds_mark begins_mark
+    holds_large
 large-example = refl

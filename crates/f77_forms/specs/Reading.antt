@@ -34,7 +34,8 @@ FailsForMemory (Err NoForm) = ⊥
 -- digits that stand for at most 9223372036854775807, behind digits that stand for `front`
 unfoldable pub number_from : ℕ → List ℕ → Bool
 number_from front [] = true
-number_from front (d ∷ ds) = is_digit d && nat_le (10 * front + (d - 48)) 9223372036854775807 && number_from (10 * front + (d - 48)) ds
+number_from front (d ∷ ds) = is_digit d && nat_le (10 * front + (d - 48)) 9223372036854775807
+    && number_from (10 * front + (d - 48)) ds
 
 -- the number that a word is
 abbrev pub number_at : List ℕ → Option (List ℕ)
@@ -42,7 +43,8 @@ number_at word = if is_number word then Some word else None
 
 -- the name or the number that a word is
 unfoldable pub word_value : List ℕ → Option ExpressionForm
-word_value word = if is_name word then Some (name word) else (if is_number word then Some (number word) else None)
+word_value word =
+    if is_name word then Some (name word) else (if is_number word then Some (number word) else None)
 
 -- ---- the state
 
@@ -137,9 +139,12 @@ unfoldable pub item_value : PendingForm → PendingForm → OperandForm → Opti
 item_value sum product missing = None
 item_value sum product (word w) = sum_value sum product (word w) >>= λ e. Some (printed (value e))
 item_value sum product (whole e) = sum_value sum product (whole e) >>= λ e. Some (printed (value e))
-item_value sum product (declarator d) = if is_nothing sum && is_nothing product then Some (declared d) else None
+item_value sum product (declarator d) =
+    if is_nothing sum && is_nothing product then Some (declared d) else None
 item_value sum product (quoted cs) = None
-item_value sum product (closed cs) = if is_nothing sum && is_nothing product && nat_lt 0 (length cs) then Some (printed (constant cs)) else None
+item_value sum product (closed cs) = if is_nothing sum && is_nothing product && nat_lt 0 (length cs)
+    then Some (printed (constant cs))
+    else None
 
 abbrev pub additive : Sign → Operator
 additive Plus = Add
@@ -150,16 +155,33 @@ additive Minus = Subtract
 -- a sign: a leading one, or one behind a left operand
 unfoldable pub pending_sum : PendingForm → PendingForm → OperandForm → Sign → Option PendingForm
 pending_sum sum product operand sign =
-    if is_missing operand then (if is_nothing sum && is_nothing product then Some (lead sign) else None)
+    if is_missing operand
+    then (if is_nothing sum && is_nothing product then Some (lead sign) else None)
     else (sum_value sum product operand >>= λ e. Some (left e (additive sign)))
 
 unfoldable pub add_step : StateForm → Sign → Option StateForm
 add_step s sign = pending_sum s.level.sum s.level.product s.operand sign >>= λ p.
-    Some (record { outer = s.outer; level = record { opener = s.level.opener; sum = p; product = nothing }; operand = missing })
+    Some (record {
+      outer = s.outer;
+      level = record {
+        opener = s.level.opener;
+        sum = p;
+        product = nothing;
+      };
+      operand = missing;
+    })
 
 unfoldable pub multiply_step : StateForm → Operator → Option StateForm
 multiply_step s op = term_value s.level.product s.operand >>= λ e.
-    Some (record { outer = s.outer; level = record { opener = s.level.opener; sum = s.level.sum; product = left e op }; operand = missing })
+    Some (record {
+      outer = s.outer;
+      level = record {
+        opener = s.level.opener;
+        sum = s.level.sum;
+        product = left e op;
+      };
+      operand = missing;
+    })
 
 -- what a parenthesis behind a name opens
 unfoldable pub opened : OpenerForm → List ℕ → OpenerForm
@@ -187,29 +209,39 @@ unfoldable pub is_separator : ℕ → Bool
 is_separator c = (c == 44) || (c == 61) || (c == 46) || (c == 41)
 
 -- bounds behind one whose last expression this is, and behind its separator
-unfoldable pub bounds_behind : List ℕ → List BoundForm → Option ExpressionForm → ExpressionForm → ℕ → Option OpenerForm
+unfoldable pub bounds_behind : List ℕ → List BoundForm → Option ExpressionForm → ExpressionForm → ℕ
+    → Option OpenerForm
 bounds_behind n front lower e c =
     if c == 44 then Some (bounds n (front ++ record { lower = lower; upper = e } ∷ []) None)
     else (if (c == 58) && not (is_some lower) then Some (bounds n front (Some e)) else None)
 
 -- where what follows a separator stands
-unfoldable pub opener_behind : OpenerForm → PendingForm → PendingForm → OperandForm → ℕ → Option OpenerForm
+unfoldable pub opener_behind : OpenerForm → PendingForm → PendingForm → OperandForm → ℕ
+    → Option OpenerForm
 opener_behind (pieces declares front separator) sum product operand c =
-    if is_separator c then (item_value sum product operand >>= λ i. Some (pieces declares (front ++ record { separator = separator; item = i } ∷ []) c)) else None
+    if is_separator c
+    then (item_value sum product operand >>= λ i.
+    Some (pieces declares (front ++ record { separator = separator; item = i } ∷ []) c))
+    else None
 opener_behind group sum product operand c = None
 opener_behind (arguments n front) sum product operand c =
-    if c == 44 then (sum_value sum product operand >>= λ e. Some (arguments n (front ++ e ∷ []))) else None
-opener_behind (bounds n front lower) sum product operand c = sum_value sum product operand >>= λ e. bounds_behind n front lower e c
+    if c == 44
+    then (sum_value sum product operand >>= λ e. Some (arguments n (front ++ e ∷ [])))
+    else None
+opener_behind (bounds n front lower) sum product operand c =
+    sum_value sum product operand >>= λ e. bounds_behind n front lower e c
 
 unfoldable pub separate_step : StateForm → ℕ → Option StateForm
-separate_step s c = opener_behind s.level.opener s.level.sum s.level.product s.operand c >>= λ opener. Some (record { outer = s.outer; level = bare opener; operand = missing })
+separate_step s c = opener_behind s.level.opener s.level.sum s.level.product s.operand c
+    >>= λ opener. Some (record { outer = s.outer; level = bare opener; operand = missing })
 
 -- the operand behind the parenthesis that ends a level
 unfoldable pub enclosed : OpenerForm → ExpressionForm → OperandForm
 enclosed (pieces declares front separator) e = missing
 enclosed group e = whole (parenthesized e)
 enclosed (arguments n front) e = whole (call n (arguments_in (front ++ e ∷ [])))
-enclosed (bounds n front lower) e = declarator (record { name = n; bounds = front ++ record { lower = lower; upper = e } ∷ [] })
+enclosed (bounds n front lower) e =
+    declarator (record { name = n; bounds = front ++ record { lower = lower; upper = e } ∷ [] })
 
 -- the state in the next outer level
 unfoldable pub left_to : List LevelForm → OperandForm → Option StateForm
@@ -225,12 +257,14 @@ is_outermost (bounds n front lower) = false
 unfoldable pub close_step : StateForm → Option StateForm
 close_step s =
     if is_outermost s.level.opener then separate_step s 41
-    else (sum_value s.level.sum s.level.product s.operand >>= λ e. left_to s.outer (enclosed s.level.opener e))
+    else (sum_value s.level.sum s.level.product s.operand >>= λ e.
+    left_to s.outer (enclosed s.level.opener e))
 
 -- an apostrophe in front of a constant
 unfoldable pub quote_step : StateForm → Option StateForm
 quote_step s =
-    if is_outermost s.level.opener && is_missing s.operand && is_nothing s.level.sum && is_nothing s.level.product
+    if is_outermost s.level.opener && is_missing s.operand && is_nothing s.level.sum
+    && is_nothing s.level.product
     then Some (record { outer = s.outer; level = s.level; operand = quoted [] }) else None
 
 unfoldable pub symbol_step : StateForm → ℕ → Option StateForm
@@ -255,7 +289,9 @@ letter_at (closed cs) c = None
 
 unfoldable pub plain_step : StateForm → ℕ → Option StateForm
 plain_step s c =
-    if is_capital_or_digit c then (letter_at s.operand c >>= λ operand. Some (record { outer = s.outer; level = s.level; operand = operand }))
+    if is_capital_or_digit c
+    then (letter_at s.operand c >>= λ operand.
+    Some (record { outer = s.outer; level = s.level; operand = operand }))
     else symbol_step s c
 
 -- a character behind those of a constant, whose apostrophe may have ended it
@@ -264,8 +300,11 @@ quoted_at cs c = if c == 39 then closed cs else quoted (cs ++ c ∷ [])
 
 -- a character behind an operand that may be a constant
 unfoldable pub step_at : OperandForm → StateForm → ℕ → Option StateForm
-step_at (quoted cs) s c = Some (record { outer = s.outer; level = s.level; operand = quoted_at cs c })
-step_at (closed cs) s c = if c == 39 then Some (record { outer = s.outer; level = s.level; operand = quoted (cs ++ 39 ∷ []) }) else plain_step s c
+step_at (quoted cs) s c =
+    Some (record { outer = s.outer; level = s.level; operand = quoted_at cs c })
+step_at (closed cs) s c = if c == 39
+    then Some (record { outer = s.outer; level = s.level; operand = quoted (cs ++ 39 ∷ []) })
+    else plain_step s c
 step_at missing s c = plain_step s c
 step_at (word w) s c = plain_step s c
 step_at (whole e) s c = plain_step s c
@@ -278,7 +317,8 @@ step s c = step_at s.operand s c
 
 -- the pieces at the end of a text
 unfoldable pub ended : List LevelForm → OpenerForm → Option ItemForm → Option (List PieceForm)
-ended [] (pieces declares front separator) item = item >>= λ i. Some (front ++ record { separator = separator; item = i } ∷ [])
+ended [] (pieces declares front separator) item =
+    item >>= λ i. Some (front ++ record { separator = separator; item = i } ∷ [])
 ended [] group item = None
 ended [] (arguments n front) item = None
 ended [] (bounds n front lower) item = None

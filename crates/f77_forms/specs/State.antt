@@ -26,13 +26,16 @@ abbrev pub piece_of : Piece → PieceForm
 piece_of p = record { separator = p.separator; item = item_of p.item }
 
 abbrev pub opener_of : Opener → OpenerForm
-opener_of (opener.Pieces declares front separator) = pieces declares (map piece_of front.items) separator
+opener_of (opener.Pieces declares front separator) =
+    pieces declares (map piece_of front.items) separator
 opener_of opener.Group = group
 opener_of (opener.Arguments n front) = arguments n.items (map expression_of front.items)
-opener_of (opener.Bounds n front lower) = bounds n.items (map bound_of front.items) (optional_of lower)
+opener_of (opener.Bounds n front lower) =
+    bounds n.items (map bound_of front.items) (optional_of lower)
 
 abbrev pub level_of : Level → LevelForm
-level_of l = record { opener = opener_of l.opener; sum = pending_of l.sum; product = pending_of l.product }
+level_of l =
+    record { opener = opener_of l.opener; sum = pending_of l.sum; product = pending_of l.product }
 
 -- levels from the inside, where they are kept from the outside
 abbrev pub levels_of : List Level → List LevelForm

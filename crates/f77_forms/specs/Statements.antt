@@ -69,11 +69,13 @@ compare_next ps = name_next 46 ps >>= λ n. compare_from n.0 >>= λ c. Some (c, 
 
 unfoldable pub assignment_next : ℕ → List PieceForm → Next AssignmentForm
 assignment_next separator ps =
-    value_next separator ps >>= λ t. target_from t.0 >>= λ target. value_next 61 t.1 >>= λ v. Some (record { target = target; value = v.0 }, v.1)
+    value_next separator ps >>= λ t. target_from t.0 >>= λ target. value_next 61 t.1 >>= λ v.
+    Some (record { target = target; value = v.0 }, v.1)
 
 unfoldable pub comparison_next : List PieceForm → Next ComparisonForm
 comparison_next ps =
-    value_next 44 ps >>= λ l. compare_next l.1 >>= λ c. value_next 46 c.1 >>= λ r. Some (record { left = l.0; compare = c.0; right = r.0 }, r.1)
+    value_next 44 ps >>= λ l. compare_next l.1 >>= λ c. value_next 46 c.1 >>= λ r.
+    Some (record { left = l.0; compare = c.0; right = r.0 }, r.1)
 
 -- the step of a DO, behind a comma, or none
 unfoldable pub step_next : List PieceForm → Next (Option ExpressionForm)
@@ -88,22 +90,26 @@ all_taken x (p ∷ ps) = None
 -- ---- lists
 
 -- what pieces are, one behind another, behind those in front; each takes a piece at least, so there are at most so many
-unfoldable pub listed_from : {A : Type 0} → (List PieceForm → Next A) → ℕ → List A → List PieceForm → Option (List A)
+unfoldable pub listed_from : {A : Type 0} → (List PieceForm → Next A) → ℕ → List A → List PieceForm
+    → Option (List A)
 listed_from next count front [] = Some front
 listed_from next zero front (p ∷ ps) = None
-listed_from next (suc count) front (p ∷ ps) = next (p ∷ ps) >>= λ r. listed_from next count (front ++ r.0 ∷ []) r.1
+listed_from next (suc count) front (p ∷ ps) =
+    next (p ∷ ps) >>= λ r. listed_from next count (front ++ r.0 ∷ []) r.1
 
 abbrev pub listed : {A : Type 0} → (List PieceForm → Next A) → List PieceForm → Option (List A)
 listed next ps = listed_from next (length ps) [] ps
 
 unfoldable pub declarator_next : Bool → List PieceForm → Next DeclaratorForm
-declarator_next bounded ps = item_next 44 ps >>= λ i. declarator_in i.0 >>= λ d. (if bounded && not (has_bounds d) then None else Some (d, i.1))
+declarator_next bounded ps = item_next 44 ps >>= λ i. declarator_in i.0 >>= λ d.
+    (if bounded && not (has_bounds d) then None else Some (d, i.1))
 
 unfoldable pub printed_next : List PieceForm → Next PrintedForm
 printed_next ps = item_next 44 ps >>= λ i. printed_in i.0 >>= λ p. Some (p, i.1)
 
 unfoldable pub definition_next : List PieceForm → Next DefinitionForm
-definition_next ps = name_next 44 ps >>= λ n. value_next 61 n.1 >>= λ v. Some (record { name = n.0; value = v.0 }, v.1)
+definition_next ps = name_next 44 ps >>= λ n. value_next 61 n.1 >>= λ v.
+    Some (record { name = n.0; value = v.0 }, v.1)
 
 -- ---- statements, by what stands behind their first word
 
@@ -115,20 +121,27 @@ declarators_at bounded text = pieces_at true text >>= λ ps. listed (declarator_
 
 -- a text in front of its last character, which is a parenthesis
 unfoldable pub before_parenthesis : List ℕ → Option (List ℕ)
-before_parenthesis text = if bytes_eq (drop (length text - 1) text) (codes ")") then Some (take (length text - 1) text) else None
+before_parenthesis text = if bytes_eq (drop (length text - 1) text) (codes ")")
+    then Some (take (length text - 1) text)
+    else None
 
 unfoldable pub parameter_at : List ℕ → Option StatementForm
-parameter_at text = before_parenthesis text >>= λ inside. pieces_at false inside >>= λ ps. listed definition_next ps >>= λ ds. Some (parameter ds)
+parameter_at text = before_parenthesis text >>= λ inside. pieces_at false inside >>= λ ps.
+    listed definition_next ps >>= λ ds. Some (parameter ds)
 
 unfoldable pub print_at : List ℕ → Option StatementForm
 print_at [] = Some (print [])
-print_at (c ∷ cs) = if c == 44 then (pieces_at false cs >>= λ ps. listed printed_next ps >>= λ items. Some (print items)) else None
+print_at (c ∷ cs) = if c == 44
+    then (pieces_at false cs >>= λ ps. listed printed_next ps >>= λ items. Some (print items))
+    else None
 
 unfoldable pub assign_at : List ℕ → Option StatementForm
-assign_at text = pieces_at false text >>= λ ps. assignment_next 44 ps >>= λ a. all_taken (assign a.0) a.1
+assign_at text =
+    pieces_at false text >>= λ ps. assignment_next 44 ps >>= λ a. all_taken (assign a.0) a.1
 
 unfoldable pub if_at : List ℕ → Option StatementForm
-if_at text = pieces_at false text >>= λ ps. comparison_next ps >>= λ c. assignment_next 41 c.1 >>= λ a. all_taken (logical_if c.0 a.0) a.1
+if_at text = pieces_at false text >>= λ ps. comparison_next ps >>= λ c.
+    assignment_next 41 c.1 >>= λ a. all_taken (logical_if c.0 a.0) a.1
 
 -- the digits in front of a text, and what stands behind them
 unfoldable pub digits_in : List ℕ → List ℕ
@@ -152,11 +165,20 @@ behind_comma (c ∷ cs) = if c == 44 then cs else c ∷ cs
 
 unfoldable pub loop_at : List ℕ → Bool → List ℕ → Option StatementForm
 loop_at label comma text =
-    pieces_at false text >>= λ ps. name_next 44 ps >>= λ v. value_next 61 v.1 >>= λ a. value_next 44 a.1 >>= λ b. step_next b.1 >>= λ s.
-    all_taken (do_loop (record { label = label; comma = comma; variable = v.0; first = a.0; last = b.0; step = s.0 })) s.1
+    pieces_at false text >>= λ ps. name_next 44 ps >>= λ v. value_next 61 v.1 >>= λ a.
+    value_next 44 a.1 >>= λ b. step_next b.1 >>= λ s.
+    all_taken (do_loop (record {
+      label = label;
+      comma = comma;
+      variable = v.0;
+      first = a.0;
+      last = b.0;
+      step = s.0;
+    })) s.1
 
 unfoldable pub do_at : List ℕ → Option StatementForm
-do_at text = label_at (digits_in text) >>= λ label. loop_at label (has_comma (behind_digits text)) (behind_comma (behind_digits text))
+do_at text = label_at (digits_in text) >>= λ label.
+    loop_at label (has_comma (behind_digits text)) (behind_comma (behind_digits text))
 
 -- ---- all statements
 
@@ -170,13 +192,17 @@ branch_at text =
     else (if begins_with (codes "DO") text then do_at (drop 2 text) else None)
 
 unfoldable pub executed_at : List ℕ → Option StatementForm
-executed_at text = if begins_with (codes "PRINT*") text then print_at (drop 6 text) else option_or (assign_at text) (branch_at text)
+executed_at text = if begins_with (codes "PRINT*") text
+    then print_at (drop 6 text)
+    else option_or (assign_at text) (branch_at text)
 
 unfoldable pub declared_at : List ℕ → Option StatementForm
 declared_at text =
     if begins_with (codes "PROGRAM") text then program_at (drop 7 text)
-    else (if begins_with (codes "INTEGER") text then (declarators_at false (drop 7 text) >>= λ ds. Some (integer ds))
-    else (if begins_with (codes "DIMENSION") text then (declarators_at true (drop 9 text) >>= λ ds. Some (dimension ds))
+    else (if begins_with (codes "INTEGER") text
+    then (declarators_at false (drop 7 text) >>= λ ds. Some (integer ds))
+    else (if begins_with (codes "DIMENSION") text
+    then (declarators_at true (drop 9 text) >>= λ ds. Some (dimension ds))
     else (if begins_with (codes "PARAMETER(") text then parameter_at (drop 10 text)
     else executed_at text)))
 

@@ -32,7 +32,8 @@ abbrev mutual
   expression_text (call n arguments) = n ++ 40 ∷ drop 1 (arguments_text arguments) ++ 41 ∷ []
   expression_text (parenthesized e) = 40 ∷ expression_text e ++ 41 ∷ []
   expression_text (signed sign term) = sign_code sign ∷ expression_text term
-  expression_text (binary op left right) = expression_text left ++ operator_code op ∷ expression_text right
+  expression_text (binary op left right) =
+      expression_text left ++ operator_code op ∷ expression_text right
 
   -- each behind a comma
   pub arguments_text : ArgumentForms → List ℕ
@@ -99,7 +100,8 @@ step_text None = []
 step_text (Some e) = 44 ∷ expression_text e
 
 abbrev pub do_text : DoForm → List ℕ
-do_text d = codes "DO" ++ d.label ++ comma_text d.comma ++ d.variable ++ 61 ∷ expression_text d.first ++ 44 ∷ expression_text d.last ++ step_text d.step
+do_text d = codes "DO" ++ d.label ++ comma_text d.comma ++ d.variable
+    ++ 61 ∷ expression_text d.first ++ 44 ∷ expression_text d.last ++ step_text d.step
 
 -- the characters of a constant, each apostrophe (39) doubled
 abbrev pub doubled : List ℕ → List ℕ
@@ -114,11 +116,14 @@ printed_text (constant characters) = 39 ∷ doubled characters ++ 39 ∷ []
 abbrev pub statement_text : StatementForm → List ℕ
 statement_text (program n) = codes "PROGRAM" ++ n
 statement_text (integer declarators) = codes "INTEGER" ++ between_commas declarator_text declarators
-statement_text (dimension declarators) = codes "DIMENSION" ++ between_commas declarator_text declarators
-statement_text (parameter definitions) = codes "PARAMETER(" ++ between_commas definition_text definitions ++ codes ")"
+statement_text (dimension declarators) =
+    codes "DIMENSION" ++ between_commas declarator_text declarators
+statement_text (parameter definitions) =
+    codes "PARAMETER(" ++ between_commas definition_text definitions ++ codes ")"
 statement_text (do_loop loop) = do_text loop
 statement_text (assign assignment) = assignment_text assignment
-statement_text (logical_if comparison assignment) = codes "IF(" ++ comparison_text comparison ++ codes ")" ++ assignment_text assignment
+statement_text (logical_if comparison assignment) =
+    codes "IF(" ++ comparison_text comparison ++ codes ")" ++ assignment_text assignment
 statement_text (print items) = codes "PRINT*" ++ behind_commas printed_text items
 statement_text continue = codes "CONTINUE"
 statement_text stop = codes "STOP"
@@ -172,7 +177,8 @@ abbrev mutual
   is_expression r (call n arguments) = is_name n && has_more arguments && are_expressions arguments
   is_expression r (parenthesized e) = is_expression sum e
   is_expression r (signed sign e) = is_sum_rank r && is_expression term e
-  is_expression r (binary op left right) = makes r op && is_expression (left_rank op) left && is_expression (right_rank op) right
+  is_expression r (binary op left right) =
+      makes r op && is_expression (left_rank op) left && is_expression (right_rank op) right
 
   pub are_expressions : ArgumentForms → Bool
   are_expressions no_more = true
@@ -209,7 +215,8 @@ abbrev pub is_label : List ℕ → Bool
 is_label digits = is_number digits && nat_lt 0 (decimal digits) && nat_le (decimal digits) 99999
 
 abbrev pub is_do : DoForm → Bool
-is_do d = is_label d.label && is_name d.variable && is_expression sum d.first && is_expression sum d.last && is_optional d.step
+is_do d = is_label d.label && is_name d.variable && is_expression sum d.first
+    && is_expression sum d.last && is_optional d.step
 
 -- a character constant is not empty
 abbrev pub is_printed : PrintedForm → Bool
@@ -219,12 +226,16 @@ is_printed (constant characters) = nat_lt 0 (length characters)
 -- a form that a statement may have
 abbrev pub is_statement : StatementForm → Bool
 is_statement (program n) = is_name n
-is_statement (integer declarators) = nat_lt 0 (length declarators) && list_all is_declarator declarators
-is_statement (dimension declarators) = nat_lt 0 (length declarators) && list_all (λ d. is_declarator d && has_bounds d) declarators
-is_statement (parameter definitions) = nat_lt 0 (length definitions) && list_all is_definition definitions
+is_statement (integer declarators) =
+    nat_lt 0 (length declarators) && list_all is_declarator declarators
+is_statement (dimension declarators) =
+    nat_lt 0 (length declarators) && list_all (λ d. is_declarator d && has_bounds d) declarators
+is_statement (parameter definitions) =
+    nat_lt 0 (length definitions) && list_all is_definition definitions
 is_statement (do_loop loop) = is_do loop
 is_statement (assign assignment) = is_assignment assignment
-is_statement (logical_if comparison assignment) = is_comparison comparison && is_assignment assignment
+is_statement (logical_if comparison assignment) =
+    is_comparison comparison && is_assignment assignment
 is_statement (print items) = list_all is_printed items
 is_statement continue = true
 is_statement stop = true
@@ -239,7 +250,9 @@ pub record HasForm (text : List ℕ) (form : StatementForm) : Type 0 where
 
 -- -K*2+07-(L)
 abbrev example : ExpressionForm
-example = binary Subtract (binary Add (signed Minus (binary Multiply (name (codes "K")) (number (codes "2")))) (number (codes "07"))) (parenthesized (name (codes "L")))
+example = binary Subtract (binary Add (signed Minus
+    (binary Multiply (name (codes "K")) (number (codes "2")))) (number (codes "07")))
+    (parenthesized (name (codes "L")))
 
 pub expression_text-example : expression_text example ≡ codes "-K*2+07-(L)"
 expression_text-example = refl
@@ -248,11 +261,21 @@ pub is_expression-example : is_expression sum example ≡ true
 is_expression-example = refl
 
 -- a sum is no right operand of a sum
-pub right_operand-example : is_expression sum (binary Subtract (name (codes "K")) (binary Subtract (name (codes "L")) (name (codes "M")))) ≡ false
+pub right_operand-example : is_expression sum
+    (binary Subtract (name (codes "K")) (binary Subtract (name (codes "L")) (name (codes "M"))))
+    ≡ false
 right_operand-example = refl
 
 -- DO 10, I = 1, N
-pub statement_text-example : statement_text (do_loop (record { label = codes "10"; comma = true; variable = codes "I"; first = number (codes "1"); last = name (codes "N"); step = None })) ≡ codes "DO10,I=1,N"
+pub statement_text-example : statement_text
+    (do_loop (record {
+      label = codes "10";
+      comma = true;
+      variable = codes "I";
+      first = number (codes "1");
+      last = name (codes "N");
+      step = None;
+    })) ≡ codes "DO10,I=1,N"
 statement_text-example = refl
 
 -- the item of It's is 'It''s'

@@ -41,16 +41,25 @@ abbrev pub definition_of : Definition → DefinitionForm
 definition_of d = record { name = d.name.items; value = expression_of d.value }
 
 abbrev pub target_of : Target → TargetForm
-target_of t = record { name = t.name.items; arguments = arguments_in (map expression_of t.arguments.items) }
+target_of t =
+    record { name = t.name.items; arguments = arguments_in (map expression_of t.arguments.items) }
 
 abbrev pub assignment_of : Assignment → AssignmentForm
 assignment_of a = record { target = target_of a.target; value = expression_of a.value }
 
 abbrev pub comparison_of : Comparison → ComparisonForm
-comparison_of c = record { left = expression_of c.left; compare = c.compare; right = expression_of c.right }
+comparison_of c =
+    record { left = expression_of c.left; compare = c.compare; right = expression_of c.right }
 
 abbrev pub do_of : DoStatement → DoForm
-do_of d = record { label = d.label; comma = d.comma; variable = d.variable.items; first = expression_of d.first; last = expression_of d.last; step = optional_of d.step }
+do_of d = record {
+  label = d.label;
+  comma = d.comma;
+  variable = d.variable.items;
+  first = expression_of d.first;
+  last = expression_of d.last;
+  step = optional_of d.step;
+}
 
 abbrev pub printed_of : Printed → PrintedForm
 printed_of (Value e) = value (expression_of e)

@@ -19,7 +19,9 @@ lines_of (b ∷ bytes) = with_byte b (lines_of bytes)
 
 -- a line without its line feed and one carriage return directly before that
 abbrev pub without_end : List ℕ → List ℕ
-without_end line = if slice_index line (length line - 1) == 10 then strip_carriage_return (take (length line - 1) line) else line
+without_end line = if slice_index line (length line - 1) == 10
+    then strip_carriage_return (take (length line - 1) line)
+    else line
 
 -- columns 1 to 72 of a line, or fewer: a shorter line counts as filled with blanks
 abbrev pub columns_of : List ℕ → List ℕ
@@ -53,7 +55,9 @@ begins_statement columns = slice_index_or columns 5 32 == 32 || slice_index_or c
 unfoldable pub kind_of : List ℕ → Kind
 kind_of columns =
     if is_directive columns then Directive
-    else (if is_marked columns || list_all is_blank columns then Comment else (if begins_statement columns then Initial else Continuation))
+    else (if is_marked columns || list_all is_blank columns
+    then Comment
+    else (if begins_statement columns then Initial else Continuation))
 
 -- a directive is a comment, too
 abbrev pub is_comment : Kind → Bool
@@ -63,13 +67,17 @@ is_comment Initial = false
 is_comment Continuation = false
 
 -- three lines: one that ends with CR and LF, an empty one, and one without its end
-pub lines_of-example : lines_of (65 ∷ 13 ∷ 10 ∷ 10 ∷ 66 ∷ []) ≡ (65 ∷ 13 ∷ 10 ∷ []) ∷ (10 ∷ []) ∷ (66 ∷ []) ∷ []
+pub lines_of-example : lines_of (65 ∷ 13 ∷ 10 ∷ 10 ∷ 66 ∷ [])
+    ≡ (65 ∷ 13 ∷ 10 ∷ []) ∷ (10 ∷ []) ∷ (66 ∷ []) ∷ []
 lines_of-example = refl
 
 -- CR belongs to the end of a line only directly before LF
-pub columns_of-example : map columns_of ((65 ∷ 13 ∷ 10 ∷ []) ∷ (10 ∷ []) ∷ (66 ∷ 13 ∷ []) ∷ []) ≡ (65 ∷ []) ∷ [] ∷ (66 ∷ 13 ∷ []) ∷ []
+pub columns_of-example : map columns_of ((65 ∷ 13 ∷ 10 ∷ []) ∷ (10 ∷ []) ∷ (66 ∷ 13 ∷ []) ∷ [])
+    ≡ (65 ∷ []) ∷ [] ∷ (66 ∷ 13 ∷ []) ∷ []
 columns_of-example = refl
 
-pub kind_of-example : map kind_of (codes "c$dist A(BLOCK)" ∷ codes "C" ∷ codes "      " ∷ codes "   10 K=1" ∷ codes "     0" ∷ codes "     ++1" ∷ []) ≡ Directive ∷ Comment ∷ Comment ∷ Initial ∷ Initial ∷ Continuation ∷ []
+pub kind_of-example : map kind_of (codes "c$dist A(BLOCK)" ∷ codes "C" ∷ codes "      "
+    ∷ codes "   10 K=1" ∷ codes "     0" ∷ codes "     ++1" ∷ [])
+    ≡ Directive ∷ Comment ∷ Comment ∷ Initial ∷ Initial ∷ Continuation ∷ []
 unfolding kind_of
 kind_of-example = refl

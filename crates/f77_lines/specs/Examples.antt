@@ -10,10 +10,14 @@ use Rattle.f77_lines.specs.Listing.{Lists, first_line_fault, first_kept, first_b
 -- a comment, a directive, two loops that share a label, a statement that goes on behind a comment, END, and a comment behind it
 abbrev pub source : List ℕ
 source =
-    codes "* sums" ++ 10 ∷ codes "c$dist a(block)" ++ 10 ∷ codes "      do 10 i=1,9" ++ 10 ∷ codes "      do 10 j=1,9" ++ 10 ∷ codes "   10 k=k" ++ 10 ∷ codes "C" ++ 10 ∷ codes "     &+i"
+    codes "* sums" ++ 10 ∷ codes "c$dist a(block)" ++ 10 ∷ codes "      do 10 i=1,9"
+    ++ 10 ∷ codes "      do 10 j=1,9" ++ 10 ∷ codes "   10 k=k" ++ 10 ∷ codes "C"
+    ++ 10 ∷ codes "     &+i"
     ++ 10 ∷ codes "      end" ++ 10 ∷ codes "C" ++ 10 ∷ []
 
-pub source-lists : Lists source (directive 2 (codes "A(BLOCK)") ∷ statement 3 0 (codes "DO10I=1,9") ∷ statement 4 0 (codes "DO10J=1,9") ∷ statement 5 10 (codes "K=K+I") ∷ statement 8 0 (codes "END") ∷ []) 90
+pub source-lists : Lists source (directive 2 (codes "A(BLOCK)") ∷ statement 3 0 (codes "DO10I=1,9")
+    ∷ statement 4 0 (codes "DO10J=1,9") ∷ statement 5 10 (codes "K=K+I")
+    ∷ statement 8 0 (codes "END") ∷ []) 90
 unfolding kind_of label_at is_end continued entries_from fault_from size_to_end
 source-lists = record { faultless = refl; listed = refl; behind = refl }
 

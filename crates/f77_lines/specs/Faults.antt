@@ -19,9 +19,15 @@ abbrev pub fault_with : Kind → ℕ → ℕ → List ℕ → Option LineRefusal
 fault_with Comment room n columns = None
 fault_with Directive room n columns = None
 fault_with Initial room n columns =
-    if not (list_all is_printable columns) then Some (BadCharacter n) else (if is_none (label_at (label_field columns)) then Some (BadLabel n) else None)
+    if not (list_all is_printable columns)
+    then Some (BadCharacter n)
+    else (if is_none (label_at (label_field columns)) then Some (BadLabel n) else None)
 fault_with Continuation room n columns =
-    if not (list_all is_printable columns) then Some (BadCharacter n) else (if room == 0 || not (list_all is_blank (take 5 columns)) then Some (BadContinuation n) else None)
+    if not (list_all is_printable columns)
+    then Some (BadCharacter n)
+    else (if room == 0 || not (list_all is_blank (take 5 columns))
+    then Some (BadContinuation n)
+    else None)
 
 -- how many continuation lines may come behind a line: 19 behind an initial line, one less behind each of them
 abbrev pub room_after : Kind → ℕ → ℕ
@@ -35,4 +41,6 @@ unfoldable pub fault_from : ℕ → ℕ → List (List ℕ) → Option LineRefus
 fault_from room n [] = Some (NoEnd n)
 fault_from room n (line ∷ lines) =
     option_or (fault_with (kind_of (columns_of line)) room n (columns_of line))
-    (if is_end (columns_of line) then None else fault_from (room_after (kind_of (columns_of line)) room) (suc n) lines)
+    (if is_end (columns_of line)
+    then None
+    else fault_from (room_after (kind_of (columns_of line)) room) (suc n) lines)

@@ -19,7 +19,8 @@ entries_of bytes = entries_from 1 (lines_of bytes)
 -- how many bytes the lines up to END take
 unfoldable pub size_to_end : List (List ℕ) → ℕ
 size_to_end [] = 0
-size_to_end (line ∷ lines) = length line + (if is_end (columns_of line) then 0 else size_to_end lines)
+size_to_end (line ∷ lines) =
+    length line + (if is_end (columns_of line) then 0 else size_to_end lines)
 
 -- Bytes without a fault list these statements and directives, and the rest begins behind so many bytes, behind the line end of END.
 pub record Lists (bytes : List ℕ) (entries : List Entry) (rest : ℕ) : Type 0 where
@@ -29,7 +30,8 @@ pub record Lists (bytes : List ℕ) (entries : List Entry) (rest : ℕ) : Type 0
 
 -- the last entry is END
 abbrev pub EndsWithEnd : List Entry → Type 0
-EndsWithEnd entries = (front : List Entry) × (line : ℕ) × (label : ℕ) × (entries ≡ front ++ statement line label (codes "END") ∷ [])
+EndsWithEnd entries = (front : List Entry) × (line : ℕ) × (label : ℕ)
+    × (entries ≡ front ++ statement line label (codes "END") ∷ [])
 
 -- Bytes are refused with their first fault, or for want of memory where they have none.
 abbrev pub Refuses : List ℕ → LineRefusal → Type 0
@@ -43,11 +45,13 @@ Refuses bytes NoMemory = first_line_fault bytes ≡ None
 -- the first of lines that is no comment, where the first line has number n
 unfoldable pub first_kept : ℕ → List (List ℕ) → Option ℕ
 first_kept n [] = None
-first_kept n (line ∷ lines) = if is_comment (kind_of (columns_of line)) then first_kept (suc n) lines else Some n
+first_kept n (line ∷ lines) =
+    if is_comment (kind_of (columns_of line)) then first_kept (suc n) lines else Some n
 
 -- the first line behind the place `rest`, counted in all bytes, that is no comment
 abbrev pub first_behind : List ℕ → ℕ → Option ℕ
-first_behind bytes rest = first_kept (length (lines_of (take rest bytes)) + 1) (lines_of (drop rest bytes))
+first_behind bytes rest =
+    first_kept (length (lines_of (take rest bytes)) + 1) (lines_of (drop rest bytes))
 
 -- a statement or a directive of the program, as plain data
 abbrev pub entry_of : Line → Entry

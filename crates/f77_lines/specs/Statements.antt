@@ -36,13 +36,15 @@ added Continuation body more = body ++ more
 -- columns 7 to 72 of the continuation lines in front of the next initial line
 unfoldable pub continued : List (List ℕ) → List ℕ
 continued [] = []
-continued (line ∷ lines) = added (kind_of (columns_of line)) (body_of (columns_of line)) (continued lines)
+continued (line ∷ lines) =
+    added (kind_of (columns_of line)) (body_of (columns_of line)) (continued lines)
 
 -- what a line that is not END begins: a statement that the lines behind it may continue, a directive, or nothing
 abbrev pub begun : Kind → ℕ → List ℕ → List (List ℕ) → List Entry
 begun Comment n columns lines = []
 begun Directive n columns lines = directive n (squeezed (drop 6 columns)) ∷ []
-begun Initial n columns lines = statement n (label_of columns) (text_of (body_of columns ++ continued lines)) ∷ []
+begun Initial n columns lines =
+    statement n (label_of columns) (text_of (body_of columns ++ continued lines)) ∷ []
 begun Continuation n columns lines = []
 
 -- the statements and directives of lines up to END, where the first line has number n; nothing continues END

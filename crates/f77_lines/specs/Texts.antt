@@ -33,7 +33,9 @@ decimal_from front (d ∷ ds) = decimal_from (10 * front + (d - 48)) ds
 -- the label that these digits stand for: 0 where there are none, and none where they are all 0
 abbrev pub label_with : List ℕ → Option ℕ
 label_with [] = Some 0
-label_with (d ∷ ds) = if list_all is_ascii_digit (d ∷ ds) && nat_lt 0 (decimal_from 0 (d ∷ ds)) then Some (decimal_from 0 (d ∷ ds)) else None
+label_with (d ∷ ds) = if list_all is_ascii_digit (d ∷ ds) && nat_lt 0 (decimal_from 0 (d ∷ ds))
+    then Some (decimal_from 0 (d ∷ ds))
+    else None
 
 -- the label in columns 1 to 5 of an initial line, 0 where they are blank; blanks and leading zeros have no meaning
 unfoldable pub label_at : List ℕ → Option ℕ
@@ -46,6 +48,7 @@ text_of-example = refl
 pub squeezed-example : squeezed (codes " a ( block, * )") ≡ codes "A(BLOCK,*)"
 squeezed-example = refl
 
-pub label_at-example : map label_at (codes " 01 0" ∷ codes "     " ∷ codes "  0 0" ∷ codes "1A" ∷ []) ≡ Some 10 ∷ Some 0 ∷ None ∷ None ∷ []
+pub label_at-example : map label_at (codes " 01 0" ∷ codes "     " ∷ codes "  0 0" ∷ codes "1A"
+    ∷ []) ≡ Some 10 ∷ Some 0 ∷ None ∷ None ∷ []
 unfolding label_at
 label_at-example = refl

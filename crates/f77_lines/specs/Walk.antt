@@ -23,4 +23,5 @@ quoted_behind quoted (c ∷ cs) = quoted_behind (quoted_after quoted c) cs
 unfoldable pub label_behind : ℕ → Bool → List ℕ → Option ℕ
 label_behind front true [] = Some front
 label_behind front false [] = if nat_lt 0 front then Some front else None
-label_behind front blank (d ∷ ds) = if list_all is_ascii_digit (d ∷ ds) && nat_lt 0 (decimal_from front (d ∷ ds)) then Some (decimal_from front (d ∷ ds)) else None
+label_behind front blank (d ∷ ds) = if list_all is_ascii_digit (d ∷ ds)
+    && nat_lt 0 (decimal_from front (d ∷ ds)) then Some (decimal_from front (d ∷ ds)) else None

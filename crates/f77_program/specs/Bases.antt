@@ -10,4 +10,6 @@ base_of s integer = if integer then s.integers else array_names s ++ constant_na
 -- the names of declarators, or of those that declare an array
 abbrev pub names_declared : Bool → List DeclaratorForm → List Name
 names_declared bounded [] = []
-names_declared bounded (d ∷ ds) = (if not bounded || nat_lt 0 (length d.bounds) then d.name ∷ [] else []) ++ names_declared bounded ds
+names_declared bounded (d ∷ ds) = (if not bounded || nat_lt 0 (length d.bounds)
+    then d.name ∷ []
+    else []) ++ names_declared bounded ds

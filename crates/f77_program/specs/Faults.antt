@@ -12,12 +12,15 @@ use Rattle.f77_program.specs.Linear.{past}
 use Rattle.f77_program.specs.Surveys.{SurveyOf}
 
 abbrev pub has_unknown : Bool → Tested → SurveyOf → Bool
-has_unknown declares t v = v.marks.unknown_call || t.bad_target || (declares && list_any (λ (m : Measure). not m.constant) v.measures) || t.again
+has_unknown declares t v = v.marks.unknown_call || t.bad_target
+    || (declares && list_any (λ (m : Measure). not m.constant) v.measures) || t.again
 
 abbrev pub named_tests : Bool → Tested → SurveyOf → List (Bool × Fault)
 named_tests declares t v =
-    (t.misplaced || v.marks.lone_call, syntax) ∷ (has_unknown declares t v, unknown) ∷ (t.other_type, not_integer)
-    ∷ (t.stores_to_loop || v.marks.read_outside || t.bad_loop, loop_variable) ∷ (t.bad_rank || v.marks.wrong_subscripts, rank) ∷ []
+    (t.misplaced || v.marks.lone_call, syntax) ∷ (has_unknown declares t v, unknown)
+    ∷ (t.other_type, not_integer)
+    ∷ (t.stores_to_loop || v.marks.read_outside || t.bad_loop, loop_variable)
+    ∷ (t.bad_rank || v.marks.wrong_subscripts, rank) ∷ []
 
 abbrev pub is_unaffine : Reach → Bool
 is_unaffine NotAffine = true
@@ -33,7 +36,9 @@ is_zero None = false
 is_zero (Some m) = int_eq m.value (pos 0)
 
 abbrev pub formed_tests : Tested → SurveyOf → Reach → Option Measure → List (Bool × Fault)
-formed_tests t v r step = (list_any (λ (m : Measure). m.divided) v.measures, bad_divisor) ∷ (is_unaffine r || is_variable step, not_affine) ∷ (is_zero step, zero_step) ∷ (t.bad_label, do_label) ∷ []
+formed_tests t v r step = (list_any (λ (m : Measure). m.divided) v.measures, bad_divisor)
+    ∷ (is_unaffine r || is_variable step, not_affine) ∷ (is_zero step, zero_step)
+    ∷ (t.bad_label, do_label) ∷ []
 
 -- ---- limits
 
@@ -60,4 +65,5 @@ IsFew None = Unit {0}
 IsFew (Some loops) = loops < 2 ^ 62
 
 abbrev pub limit_numbers : Tested → ℕ → Option ℕ → Reach → Option Measure → List ℤ
-limit_numbers t count loops r step = counted 400 (count + 1) ++ numbers_in t.past ++ loop_numbers loops ++ reach_numbers r ++ step_numbers step
+limit_numbers t count loops r step = counted 400 (count + 1) ++ numbers_in t.past
+    ++ loop_numbers loops ++ reach_numbers r ++ step_numbers step

@@ -30,7 +30,8 @@ number_apart others n = get_by (λ key. slice_cmp nat_cmp n key.items) others
 
 -- the number that the maps have under a name
 abbrev pub number_under : Numbers → Name → Option ℕ
-number_under numbers n = if is_short n then get nat_cmp numbers.short (key_of n) else number_apart numbers.others n
+number_under numbers n =
+    if is_short n then get nat_cmp numbers.short (key_of n) else number_apart numbers.others n
 
 -- the maps have each name under its number, and nothing else
 abbrev pub AreNumbered : Numbers → List Name → Type 0

@@ -11,7 +11,8 @@ array_of d = record { name = d.name.now; bounds = d.bounds.items }
 
 abbrev pub entered : Scene → ℕ → StatementForm → Scene
 entered s label (program n) = s
-entered s label (integer ds) = record s { integers = s.integers ++ declarator_names ds; arrays = s.arrays ++ arrays_of s ds }
+entered s label (integer ds) =
+    record s { integers = s.integers ++ declarator_names ds; arrays = s.arrays ++ arrays_of s ds }
 entered s label (dimension ds) = record s { arrays = s.arrays ++ arrays_of s ds }
 entered s label (parameter ds) = s
 entered s label (do_loop d) = behind_do s d

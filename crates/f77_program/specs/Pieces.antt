@@ -36,10 +36,12 @@ abbrev pub definition_pieces : DefinitionForm → List PieceForm
 definition_pieces d = named d.name ∷ expressed d.value ∷ []
 
 abbrev pub assignment_pieces : AssignmentForm → List PieceForm
-assignment_pieces a = named a.target.name ∷ map expressed (list_of a.target.arguments) ++ expressed a.value ∷ []
+assignment_pieces a =
+    named a.target.name ∷ map expressed (list_of a.target.arguments) ++ expressed a.value ∷ []
 
 abbrev pub do_pieces : DoForm → List PieceForm
-do_pieces d = named d.variable ∷ expressed d.first ∷ expressed d.last ∷ map expressed (optional d.step)
+do_pieces d =
+    named d.variable ∷ expressed d.first ∷ expressed d.last ∷ map expressed (optional d.step)
 
 abbrev pub item_pieces : PrintedForm → List PieceForm
 item_pieces (value e) = expressed e ∷ []

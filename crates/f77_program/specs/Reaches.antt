@@ -16,7 +16,9 @@ reach_with (z ∷ zs) = Past z
 
 -- of expressions that have to be affine
 abbrev pub reach_of : Scene → List ExpressionForm → Reach
-reach_of s es = if list_any (λ e. not (is_affine s e)) es then NotAffine else reach_with (past (flat_map (met s) es))
+reach_of s es = if list_any (λ e. not (is_affine s e)) es
+    then NotAffine
+    else reach_with (past (flat_map (met s) es))
 
 -- ---- the private functions over again
 

@@ -42,6 +42,7 @@ count_text (Count z) = codes " COUNT " ++ signed_decimal z
 count_text fault = codes ""
 
 abbrev pub text_of_refusal : Refusal → List ℕ
-text_of_refusal (Statement fault line) = codes "REFUSED F" ++ decimal (code_of fault) ++ codes " LINE " ++ decimal line ++ count_text fault
+text_of_refusal (Statement fault line) = codes "REFUSED F" ++ decimal (code_of fault)
+    ++ codes " LINE " ++ decimal line ++ count_text fault
 text_of_refusal (BadSetting index) = codes "WORDS " ++ decimal index
 text_of_refusal NoMemory = codes "memory ran out"

@@ -13,4 +13,5 @@ stacked f (p ∷ ps) = f p ∷ drop (length (operands_of p)) (stacked f ps)
 -- behind each part stand the parts of its operands
 abbrev pub AreFollowed : List ExpressionForm → Type 0
 AreFollowed [] = Unit {0}
-AreFollowed (p ∷ ps) = ((more : List ExpressionForm) × (ps ≡ flat_map parts_of (operands_of p) ++ more)) × AreFollowed ps
+AreFollowed (p ∷ ps) = ((more : List ExpressionForm)
+    × (ps ≡ flat_map parts_of (operands_of p) ++ more)) × AreFollowed ps

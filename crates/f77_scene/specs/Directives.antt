@@ -16,7 +16,9 @@ Placing = ℕ × Spread
 -- the items of so many dimensions from number `first` on, each behind a comma (44): a word for the distributed one, and `*` (42) for any other
 abbrev pub items_text : ℕ → ℕ → Placing → List ℕ
 items_text zero first placing = []
-items_text (suc count) first placing = 44 ∷ (if first == placing.0 then word_of placing.1 else 42 ∷ []) ++ items_text count (suc first) placing
+items_text (suc count) first placing = 44
+    ∷ (if first == placing.0 then word_of placing.1 else 42 ∷ [])
+    ++ items_text count (suc first) placing
 
 -- the text of the directive that places an array of so many dimensions so
 abbrev pub directive_text : Name → ℕ → Placing → List ℕ
@@ -30,12 +32,15 @@ placings = (1, Block) ∷ (1, Cyclic) ∷ (2, Block) ∷ (2, Cyclic) ∷ (3, Blo
 abbrev pub placed_by : List Placing → List ℕ → Name → ℕ → Placing → Placing
 placed_by [] text n dimensions so_far = so_far
 placed_by (p ∷ ps) text n dimensions so_far =
-    if nat_le p.0 dimensions && bytes_eq text (directive_text n dimensions p) then p else placed_by ps text n dimensions so_far
+    if nat_le p.0 dimensions && bytes_eq text (directive_text n dimensions p)
+    then p
+    else placed_by ps text n dimensions so_far
 
 -- of two directives for one array the later counts
 abbrev pub placed_after : List (List ℕ) → Name → ℕ → Placing → Placing
 placed_after [] n dimensions so_far = so_far
-placed_after (text ∷ texts) n dimensions so_far = placed_after texts n dimensions (placed_by placings text n dimensions so_far)
+placed_after (text ∷ texts) n dimensions so_far =
+    placed_after texts n dimensions (placed_by placings text n dimensions so_far)
 
 -- how an array is placed; without a directive in blocks along its last dimension
 abbrev pub placed : List (List ℕ) → Name → ℕ → Placing
@@ -44,8 +49,11 @@ placed texts n dimensions = placed_after texts n dimensions (dimensions, Block)
 -- ---- an example
 
 abbrev texts : List (List ℕ)
-texts = codes "A(BLOCK,*)" ∷ codes "A(*,CYCLIC)" ∷ codes "B(BLOCK,BLOCK)" ∷ codes "C(*,*,CYCLIC)" ∷ []
+texts =
+    codes "A(BLOCK,*)" ∷ codes "A(*,CYCLIC)" ∷ codes "B(BLOCK,BLOCK)" ∷ codes "C(*,*,CYCLIC)" ∷ []
 
 -- A is dealt along its second dimension; the directive of B has another shape
-pub placed-example : placed texts (codes "A") 2 ∷ placed texts (codes "B") 2 ∷ placed texts (codes "C") 3 ∷ placed texts (codes "D") 1 ∷ [] ≡ (2, Cyclic) ∷ (2, Block) ∷ (3, Cyclic) ∷ (1, Block) ∷ []
+pub placed-example : placed texts (codes "A") 2 ∷ placed texts (codes "B") 2
+    ∷ placed texts (codes "C") 3 ∷ placed texts (codes "D") 1 ∷ []
+    ≡ (2, Cyclic) ∷ (2, Block) ∷ (3, Cyclic) ∷ (1, Block) ∷ []
 placed-example = refl

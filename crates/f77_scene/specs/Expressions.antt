@@ -69,7 +69,9 @@ operator_value Divide a b = quotient a b
 
 -- MIN or MAX of two values
 abbrev pub chosen : Name → ℤ → ℤ → ℤ
-chosen n a b = if bytes_eq n (codes "MIN") then (if int_le a b then a else b) else (if int_le a b then b else a)
+chosen n a b = if bytes_eq n (codes "MIN")
+    then (if int_le a b then a else b)
+    else (if int_le a b then b else a)
 
 -- the value of a constant; sums, differences and products wrap
 abbrev mutual
@@ -94,6 +96,9 @@ is_divisor s e = is_constant s e && not (int_eq (value_of s e) (pos 0))
 -- ---- an example
 
 -- -MAX(2,7)/2 has the value -3
-pub value_of-example : value_of first_scene (signed Minus (binary Divide (call (codes "MAX") (one_more (number (codes "2")) (one_more (number (codes "7")) no_more))) (number (codes "2")))) ≡ pos 0 -ℤ pos 3
+pub value_of-example : value_of first_scene
+    (signed Minus (binary Divide (call (codes "MAX")
+    (one_more (number (codes "2")) (one_more (number (codes "7")) no_more))) (number (codes "2"))))
+    ≡ pos 0 -ℤ pos 3
 unfolding int_wrap
 value_of-example = refl

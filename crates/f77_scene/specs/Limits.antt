@@ -39,5 +39,6 @@ declarator_past s d = counted 3 (length d.bounds) ++ flat_map (bounds_past s) d.
 -- what passes a limit in a statement, in the order of the text: the number of statements, declarators, nested loops, the numbers met in forms, and steps
 abbrev pub limits_past : Scene → StatementForm → List ℤ
 limits_past s f =
-    counted most_statements (s.count + 1) ++ flat_map (declarator_past s) (declarators_in f) ++ flat_map (λ (d : DoForm). counted 6 (length s.opened + 1)) (loops_in f)
+    counted most_statements (s.count + 1) ++ flat_map (declarator_past s) (declarators_in f)
+    ++ flat_map (λ (d : DoForm). counted 6 (length s.opened + 1)) (loops_in f)
     ++ past (flat_map (met s) (affine_in s f)) ++ past (map (value_of s) (steps_in f))

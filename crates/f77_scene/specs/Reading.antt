@@ -44,8 +44,11 @@ abbrev pub fault_of_form : Given → Scene → ℕ → ℕ → StatementForm →
 fault_of_form given s after label f =
     option_or
     (first_of
-    ((has_bad_syntax given s after f, syntax) ∷ (has_unknown given s f, unknown) ∷ (has_other_type given s f, not_integer) ∷ (misuses_loop_variable given s f, loop_variable)
-    ∷ (has_bad_rank given s f, rank) ∷ (has_bad_divisor given s f, bad_divisor) ∷ (is_not_affine s f, not_affine) ∷ (has_zero_step s f, zero_step) ∷ (has_bad_label s label f, do_label) ∷ []))
+    ((has_bad_syntax given s after f, syntax) ∷ (has_unknown given s f, unknown)
+    ∷ (has_other_type given s f, not_integer) ∷ (misuses_loop_variable given s f, loop_variable)
+    ∷ (has_bad_rank given s f, rank) ∷ (has_bad_divisor given s f, bad_divisor)
+    ∷ (is_not_affine s f, not_affine) ∷ (has_zero_step s f, zero_step)
+    ∷ (has_bad_label s label f, do_label) ∷ []))
     (first_past (limits_past s f))
 
 -- ---- all statements
@@ -67,7 +70,8 @@ reading_of text = reading_with text (statement_at text)
 unfoldable pub statements_in : List Entry → List SourceStatement
 statements_in [] = []
 statements_in (directive line text ∷ entries) = statements_in entries
-statements_in (statement line label text ∷ entries) = record { line = line; label = label; reading = reading_of text } ∷ statements_in entries
+statements_in (statement line label text ∷ entries) =
+    record { line = line; label = label; reading = reading_of text } ∷ statements_in entries
 
 -- the first fault of a statement with so many statements behind it, if any
 abbrev pub fault_with : Given → Scene → ℕ → ℕ → Result StatementForm TextFault → Option Fault
@@ -92,7 +96,9 @@ at_line line (Some fault) = Some (bad_statement fault line)
 -- the first fault of statements, and what is known behind them
 unfoldable pub fault_from : Given → Scene → List SourceStatement → Option Refusal
 fault_from given s [] = None
-fault_from given s (p ∷ ps) = option_or (at_line p.line (fault_with given s (length ps) p.label p.reading)) (fault_from given (scene_with given s p.label p.reading) ps)
+fault_from given s (p ∷ ps) = option_or (at_line p.line
+    (fault_with given s (length ps) p.label p.reading))
+    (fault_from given (scene_with given s p.label p.reading) ps)
 
 unfoldable pub scene_from : Given → Scene → List SourceStatement → Scene
 scene_from given s [] = s
@@ -101,7 +107,8 @@ scene_from given s (p ∷ ps) = scene_from given (scene_with given s p.label p.r
 -- the tree of statements, where the variables are numbered as they stand here
 unfoldable pub body_from : List Name → Given → Scene → List SourceStatement → Body → Body
 body_from variables given s [] body = body
-body_from variables given s (p ∷ ps) body = body_from variables given (scene_with given s p.label p.reading) ps (body_with variables s p.line p.label p.reading body)
+body_from variables given s (p ∷ ps) body = body_from variables given
+    (scene_with given s p.label p.reading) ps (body_with variables s p.line p.label p.reading body)
 
 -- ---- what holds of the whole source
 
@@ -126,7 +133,8 @@ last_scene ps settings = scene_from (given_with ps settings) first_scene ps
 
 -- the whole tree
 abbrev pub last_body : List SourceStatement → List (Name × ℤ) → Body
-last_body ps settings = body_from (variables_of (last_scene ps settings)) (given_with ps settings) first_scene ps first_body
+last_body ps settings = body_from (variables_of (last_scene ps settings)) (given_with ps settings)
+    first_scene ps first_body
 
 -- the texts of the directives
 abbrev pub directives_of : List Entry → List (List ℕ)
@@ -137,16 +145,27 @@ directives_of (directive line text ∷ entries) = text ∷ directives_of entries
 -- a variable with its bounds, if any, and how it is distributed
 abbrev pub declaration : List (List ℕ) → Scene → Name → Declaration
 declaration texts s n =
-    if is_array s n then record { name = n; bounds = bounds_named s.arrays n; axis = (placed texts n (length (bounds_named s.arrays n))).0; spread = (placed texts n (length (bounds_named s.arrays n))).1 }
+    if is_array s n
+    then record {
+      name = n;
+      bounds = bounds_named s.arrays n;
+      axis = (placed texts n (length (bounds_named s.arrays n))).0;
+      spread = (placed texts n (length (bounds_named s.arrays n))).1;
+    }
     else record { name = n; bounds = []; axis = 0; spread = Block }
 
 -- the program of statements with these directives, by what is known behind the last of them and by their tree
 abbrev pub tree_from : List (List ℕ) → Scene → Body → Tree
-tree_from directives s body = record { items = in_a_row body.items; params = s.constants; variables = map (declaration directives s) (variables_of s) }
+tree_from directives s body = record {
+  items = in_a_row body.items;
+  params = s.constants;
+  variables = map (declaration directives s) (variables_of s);
+}
 
 -- the program of what is listed
 abbrev pub program_in : List Entry → List (Name × ℤ) → Tree
-program_in entries settings = tree_from (directives_of entries) (last_scene (statements_in entries) settings) (last_body (statements_in entries) settings)
+program_in entries settings = tree_from (directives_of entries)
+    (last_scene (statements_in entries) settings) (last_body (statements_in entries) settings)
 
 -- the program that bytes without a fault stand for
 abbrev pub program_of : List ℕ → List (Name × ℤ) → Tree
@@ -157,7 +176,9 @@ program_of bytes settings = program_in (entries_of bytes) settings
 -- the first of settings, from this number on, that names none of these
 abbrev pub bad_setting_from : ℕ → List Name → List (Name × ℤ) → Option Refusal
 bad_setting_from index names [] = None
-bad_setting_from index names (setting ∷ settings) = if is_among names setting.0 then bad_setting_from (suc index) names settings else Some (bad_setting index)
+bad_setting_from index names (setting ∷ settings) = if is_among names setting.0
+    then bad_setting_from (suc index) names settings
+    else Some (bad_setting index)
 
 abbrev pub as_refusal : Option LineRefusal → Option Refusal
 as_refusal None = None
@@ -165,7 +186,8 @@ as_refusal (Some refusal) = Some (bad_line refusal)
 
 -- the first fault of statements, or else the first setting that names no PARAMETER
 abbrev pub first_fault_of : List SourceStatement → List (Name × ℤ) → Option Refusal
-first_fault_of ps settings = option_or (fault_from (given_with ps settings) first_scene ps) (bad_setting_from 1 (constant_names (last_scene ps settings)) settings)
+first_fault_of ps settings = option_or (fault_from (given_with ps settings) first_scene ps)
+    (bad_setting_from 1 (constant_names (last_scene ps settings)) settings)
 
 -- the first fault of what is listed
 abbrev pub first_fault_in : List Entry → List (Name × ℤ) → Option Refusal
@@ -173,7 +195,8 @@ first_fault_in entries settings = first_fault_of (statements_in entries) setting
 
 -- the first fault of bytes and settings: of lines, of statements, of settings
 abbrev pub first_fault : List ℕ → List (Name × ℤ) → Option Refusal
-first_fault bytes settings = option_or (as_refusal (first_line_fault bytes)) (first_fault_in (entries_of bytes) settings)
+first_fault bytes settings =
+    option_or (as_refusal (first_line_fault bytes)) (first_fault_in (entries_of bytes) settings)
 
 -- Bytes and settings without a fault stand for this program.
 pub record Reads (bytes : List ℕ) (settings : List (Name × ℤ)) (program : Tree) : Type 0 where

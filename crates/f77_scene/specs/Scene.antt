@@ -48,7 +48,19 @@ pub record Scene : Type 0 where
 -- in front of the first statement
 abbrev pub first_scene : Scene
 first_scene =
-    record { count = 0; executes = false; labels = []; names = []; integers = []; constants = []; arrays = []; scalars = []; loop_variables = []; loops = 0; opened = [] }
+    record {
+      count = 0;
+      executes = false;
+      labels = [];
+      names = [];
+      integers = [];
+      constants = [];
+      arrays = [];
+      scalars = [];
+      loop_variables = [];
+      loops = 0;
+      opened = [];
+    }
 
 -- ---- lists of names
 
@@ -63,7 +75,8 @@ number_among (m ∷ names) n = if bytes_eq m n then 1 else suc (number_among nam
 -- known names and those of a statement, each where it first appears
 abbrev pub with_names : List Name → List Name → List Name
 with_names known [] = known
-with_names known (n ∷ names) = with_names (if is_among known n then known else known ++ n ∷ []) names
+with_names known (n ∷ names) =
+    with_names (if is_among known n then known else known ++ n ∷ []) names
 
 -- a name of these stands among the known ones, or twice among these
 abbrev pub comes_again : List Name → List Name → Bool
@@ -109,7 +122,8 @@ loop_named (o ∷ opened) n = if bytes_eq o.variable n then o.number else loop_n
 
 -- ---- examples
 
-pub with_names-example : with_names (codes "I" ∷ []) (codes "K" ∷ codes "I" ∷ codes "K" ∷ []) ≡ codes "I" ∷ codes "K" ∷ []
+pub with_names-example : with_names (codes "I" ∷ []) (codes "K" ∷ codes "I" ∷ codes "K" ∷ [])
+    ≡ codes "I" ∷ codes "K" ∷ []
 with_names-example = refl
 
 pub number_among-example : number_among (codes "I" ∷ codes "K" ∷ []) (codes "K") ≡ 2

@@ -29,7 +29,12 @@ value_set ((m, z) ∷ settings) n written = value_set settings n (if bytes_eq m 
 -- a scene with one more named constant
 abbrev pub with_constant : Given → Scene → DefinitionForm → Scene
 with_constant given s d =
-    record s { constants = s.constants ++ record { name = d.name; value = value_set given.settings d.name (value_of s d.value) } ∷ [] }
+    record s {
+      constants = s.constants ++ record {
+        name = d.name;
+        value = value_set given.settings d.name (value_of s d.value);
+      } ∷ [];
+    }
 
 abbrev pub with_constants : Given → Scene → List DefinitionForm → Scene
 with_constants given s [] = s
@@ -42,7 +47,8 @@ Spot = Scene × ExpressionForm
 -- the values of a PARAMETER statement; each may use the names in front of it
 abbrev pub definition_spots : Given → Scene → List DefinitionForm → List Spot
 definition_spots given s [] = []
-definition_spots given s (d ∷ ds) = (s, d.value) ∷ definition_spots given (with_constant given s d) ds
+definition_spots given s (d ∷ ds) =
+    (s, d.value) ∷ definition_spots given (with_constant given s d) ds
 
 -- ---- all statements
 
@@ -87,12 +93,15 @@ names_among s es = flat_map (names_in s) es
 -- the names of variables and constants in a statement, in the order of the text; the name of a program is none of them
 abbrev pub names_of : Scene → StatementForm → List Name
 names_of s (program n) = []
-names_of s (integer ds) = flat_map (λ (d : DeclaratorForm). d.name ∷ names_among s (bound_expressions d.bounds)) ds
-names_of s (dimension ds) = flat_map (λ (d : DeclaratorForm). d.name ∷ names_among s (bound_expressions d.bounds)) ds
+names_of s (integer ds) =
+    flat_map (λ (d : DeclaratorForm). d.name ∷ names_among s (bound_expressions d.bounds)) ds
+names_of s (dimension ds) =
+    flat_map (λ (d : DeclaratorForm). d.name ∷ names_among s (bound_expressions d.bounds)) ds
 names_of s (parameter ds) = flat_map (λ (d : DefinitionForm). d.name ∷ names_in s d.value) ds
 names_of s (do_loop d) = d.variable ∷ names_among s (d.first ∷ d.last ∷ optional d.step)
 names_of s (assign a) = a.target.name ∷ names_among s (assignment_expressions a)
-names_of s (logical_if c a) = names_among s (c.left ∷ c.right ∷ []) ++ a.target.name ∷ names_among s (assignment_expressions a)
+names_of s (logical_if c a) = names_among s (c.left ∷ c.right ∷ [])
+    ++ a.target.name ∷ names_among s (assignment_expressions a)
 names_of s (print items) = names_among s (flat_map item_expressions items)
 names_of s continue = []
 names_of s stop = []

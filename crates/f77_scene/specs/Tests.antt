@@ -38,7 +38,8 @@ is_lone_call s (call n (one_more e no_more)) = is_function s n
 is_lone_call s e = false
 
 abbrev pub has_bad_syntax : Given → Scene → ℕ → StatementForm → Bool
-has_bad_syntax given s behind f = not (is_in_order s behind f) || somewhere is_lone_call (spots_in given s f)
+has_bad_syntax given s behind f =
+    not (is_in_order s behind f) || somewhere is_lone_call (spots_in given s f)
 
 -- ---- F4: names that are not what they are used as
 
@@ -48,7 +49,8 @@ is_unknown_call s e = false
 
 -- a target that is a named constant, or has parentheses and is no array
 abbrev pub is_bad_target : Scene → TargetForm → Bool
-is_bad_target s t = is_constant_name s t.name || (nat_lt 0 (length (list_of t.arguments)) && not (is_array s t.name))
+is_bad_target s t = is_constant_name s t.name
+    || (nat_lt 0 (length (list_of t.arguments)) && not (is_array s t.name))
 
 -- a declaration's expressions are constants
 abbrev pub is_declaration : StatementForm → Bool
@@ -60,13 +62,16 @@ is_declaration f = false
 -- a name comes twice in INTEGER statements, or has two declarators, two values, or a declarator and a value
 abbrev pub declares_again : Scene → StatementForm → Bool
 declares_again s f =
-    comes_again s.integers (integers_in f) || comes_again (array_names s ++ constant_names s) (declarator_names (bounded (declarators_in f)))
-    || comes_again (array_names s ++ constant_names s) (map (λ (d : DefinitionForm). d.name) (definitions_in f))
+    comes_again s.integers (integers_in f) || comes_again (array_names s ++ constant_names s)
+    (declarator_names (bounded (declarators_in f)))
+    || comes_again (array_names s ++ constant_names s)
+    (map (λ (d : DefinitionForm). d.name) (definitions_in f))
 
 abbrev pub has_unknown : Given → Scene → StatementForm → Bool
 has_unknown given s f =
     somewhere is_unknown_call (spots_in given s f) || list_any (is_bad_target s) (targets_in f)
-    || (is_declaration f && list_any (λ (spot : Spot). not (is_constant spot.0 spot.1)) (spots_in given s f)) || declares_again s f
+    || (is_declaration f && list_any (λ (spot : Spot). not (is_constant spot.0 spot.1))
+    (spots_in given s f)) || declares_again s f
 
 -- ---- F3: variables that are not INTEGER
 
@@ -76,7 +81,8 @@ begins_i_to_n [] = false
 begins_i_to_n (c ∷ cs) = nat_le 73 c && nat_le c 78
 
 abbrev pub has_other_type : Given → Scene → StatementForm → Bool
-has_other_type given s f = list_any (λ n. not (begins_i_to_n n || is_among given.integers n)) (names_of s f)
+has_other_type given s f =
+    list_any (λ n. not (begins_i_to_n n || is_among given.integers n)) (names_of s f)
 
 -- ---- F10: DO variables
 
@@ -93,18 +99,22 @@ is_named n e = false
 -- the variable of this DO statement is an array, a named constant or a scalar, is in use in a loop round it, or is read in its bounds or its step
 abbrev pub is_bad_loop : Scene → DoForm → Bool
 is_bad_loop s d =
-    is_array s d.variable || is_constant_name s d.variable || is_among s.scalars d.variable || is_open s d.variable
-    || list_any (λ e. list_any (is_named d.variable) (parts_of e)) (d.first ∷ d.last ∷ optional d.step)
+    is_array s d.variable || is_constant_name s d.variable || is_among s.scalars d.variable
+    || is_open s d.variable
+    || list_any (λ e. list_any (is_named d.variable) (parts_of e))
+    (d.first ∷ d.last ∷ optional d.step)
 
 abbrev pub misuses_loop_variable : Given → Scene → StatementForm → Bool
 misuses_loop_variable given s f =
-    list_any (λ (t : TargetForm). is_among s.loop_variables t.name) (targets_in f) || somewhere is_read_outside (spots_in given s f) || list_any (is_bad_loop s) (loops_in f)
+    list_any (λ (t : TargetForm). is_among s.loop_variables t.name) (targets_in f)
+    || somewhere is_read_outside (spots_in given s f) || list_any (is_bad_loop s) (loops_in f)
 
 -- ---- F5: subscripts
 
 -- an array with so many subscripts
 abbrev pub is_bad_rank : Scene → Name → ArgumentForms → Bool
-is_bad_rank s n arguments = is_array s n && not (length (list_of arguments) == length (bounds_named s.arrays n))
+is_bad_rank s n arguments =
+    is_array s n && not (length (list_of arguments) == length (bounds_named s.arrays n))
 
 abbrev pub has_wrong_subscripts : Scene → ExpressionForm → Bool
 has_wrong_subscripts s (name n) = is_array s n
@@ -112,7 +122,8 @@ has_wrong_subscripts s (call n arguments) = is_bad_rank s n arguments
 has_wrong_subscripts s e = false
 
 abbrev pub has_bad_rank : Given → Scene → StatementForm → Bool
-has_bad_rank given s f = list_any (λ (t : TargetForm). is_bad_rank s t.name t.arguments) (targets_in f) || somewhere has_wrong_subscripts (spots_in given s f)
+has_bad_rank given s f = list_any (λ (t : TargetForm). is_bad_rank s t.name t.arguments)
+    (targets_in f) || somewhere has_wrong_subscripts (spots_in given s f)
 
 -- ---- F8: divisors
 
@@ -138,7 +149,8 @@ subscripts_in s e = flat_map (subscripts_at s) (parts_of e)
 abbrev pub affine_in : Scene → StatementForm → List ExpressionForm
 affine_in s (do_loop d) = d.first ∷ d.last ∷ []
 affine_in s (assign a) = list_of a.target.arguments ++ subscripts_in s a.value
-affine_in s (logical_if c a) = c.left ∷ c.right ∷ list_of a.target.arguments ++ subscripts_in s a.value
+affine_in s (logical_if c a) =
+    c.left ∷ c.right ∷ list_of a.target.arguments ++ subscripts_in s a.value
 affine_in s (print items) = flat_map (subscripts_in s) (expressions_in s (print items))
 affine_in s f = []
 
@@ -146,7 +158,8 @@ abbrev pub steps_in : StatementForm → List ExpressionForm
 steps_in f = flat_map (λ (d : DoForm). optional d.step) (loops_in f)
 
 abbrev pub is_not_affine : Scene → StatementForm → Bool
-is_not_affine s f = list_any (λ e. not (is_affine s e)) (affine_in s f) || list_any (λ e. not (is_constant s e)) (steps_in f)
+is_not_affine s f = list_any (λ e. not (is_affine s e)) (affine_in s f)
+    || list_any (λ e. not (is_constant s e)) (steps_in f)
 
 abbrev pub has_zero_step : Scene → StatementForm → Bool
 has_zero_step s f = list_any (λ e. int_eq (value_of s e) (pos 0)) (steps_in f)
@@ -175,5 +188,7 @@ left_open label (o ∷ opened) = if o.label == label then left_open label opened
 
 abbrev pub has_bad_label : Scene → ℕ → StatementForm → Bool
 has_bad_label s label f =
-    (nat_lt 0 label && list_any (λ l. l == label) s.labels) || (ends_a_loop label s.opened && not (is_terminal f)) || ends_a_loop label (left_open label s.opened)
+    (nat_lt 0 label && list_any (λ l. l == label) s.labels)
+    || (ends_a_loop label s.opened && not (is_terminal f))
+    || ends_a_loop label (left_open label s.opened)
     || (is_end f && not (is_empty s.opened))

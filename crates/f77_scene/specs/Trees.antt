@@ -23,37 +23,46 @@ use Rattle.f77_scene.specs.Statements.{is_whole}
 
 -- a scalar, or an element of an array
 abbrev pub access : List Name → Scene → Name → ArgumentForms → Access
-access variables s n arguments = record { variable = number_among variables n; subscripts = map (form_of s) (list_of arguments) }
+access variables s n arguments =
+    record { variable = number_among variables n; subscripts = map (form_of s) (list_of arguments) }
 
 -- a name in an expression: the variable of a loop round this place, a named constant, or a scalar
 abbrev pub name_tree : List Name → Scene → Name → Expression
 name_tree variables s n =
     if is_open s n then tree.loop_value (loop_named s.opened n)
-    else (if is_constant_name s n then tree.param (number_among (constant_names s) n) else tree.load (access variables s n no_more))
+    else (if is_constant_name s n
+    then tree.param (number_among (constant_names s) n)
+    else tree.load (access variables s n no_more))
 
 abbrev pub sign_tree : Sign → Expression → Expression
 sign_tree Plus a = a
 sign_tree Minus a = tree.neg a
 
 abbrev pub chosen_tree : Name → Expressions → Expression
-chosen_tree n arguments = if bytes_eq n (codes "MIN") then tree.least_of arguments else tree.greatest_of arguments
+chosen_tree n arguments =
+    if bytes_eq n (codes "MIN") then tree.least_of arguments else tree.greatest_of arguments
 
 -- parentheses have no node of their own, and a divisor is its value
 abbrev mutual
   pub tree_of : List Name → Scene → ExpressionForm → Expression
   tree_of variables s (number ds) = tree.number (pos (decimal ds))
   tree_of variables s (name n) = name_tree variables s n
-  tree_of variables s (call n arguments) = if is_array s n then tree.load (access variables s n arguments) else chosen_tree n (trees_of variables s arguments)
+  tree_of variables s (call n arguments) = if is_array s n
+      then tree.load (access variables s n arguments)
+      else chosen_tree n (trees_of variables s arguments)
   tree_of variables s (parenthesized e) = tree_of variables s e
   tree_of variables s (signed sign e) = sign_tree sign (tree_of variables s e)
   tree_of variables s (binary Add a b) = tree.add (tree_of variables s a) (tree_of variables s b)
-  tree_of variables s (binary Subtract a b) = tree.sub (tree_of variables s a) (tree_of variables s b)
-  tree_of variables s (binary Multiply a b) = tree.mul (tree_of variables s a) (tree_of variables s b)
+  tree_of variables s (binary Subtract a b) =
+      tree.sub (tree_of variables s a) (tree_of variables s b)
+  tree_of variables s (binary Multiply a b) =
+      tree.mul (tree_of variables s a) (tree_of variables s b)
   tree_of variables s (binary Divide a b) = tree.div (tree_of variables s a) (value_of s b)
 
   pub trees_of : List Name → Scene → ArgumentForms → Expressions
   trees_of variables s no_more = tree.no_more
-  trees_of variables s (one_more e rest) = tree.one_more (tree_of variables s e) (trees_of variables s rest)
+  trees_of variables s (one_more e rest) =
+      tree.one_more (tree_of variables s e) (trees_of variables s rest)
 
 -- ---- statements
 
@@ -65,11 +74,17 @@ compare_of Ge = tree_compare.Ge
 compare_of Gt = tree_compare.Gt
 
 abbrev pub guard_of : Scene → ComparisonForm → Guard
-guard_of s c = record { left = form_of s c.left; op = compare_of c.compare; right = form_of s c.right }
+guard_of s c =
+    record { left = form_of s c.left; op = compare_of c.compare; right = form_of s c.right }
 
 abbrev pub assignment_tree : List Name → Scene → ℕ → Option Guard → AssignmentForm → Statement
 assignment_tree variables s line guard a =
-    tree.work (tree.assign (record { target = access variables s a.target.name a.target.arguments; value = tree_of variables s a.value; guard = guard; line = line }))
+    tree.work (tree.assign (record {
+      target = access variables s a.target.name a.target.arguments;
+      value = tree_of variables s a.value;
+      guard = guard;
+      line = line;
+    }))
 
 abbrev pub value_tree : List Name → Scene → ExpressionForm → Printed
 value_tree variables s e = if is_whole s e then whole_of e else tree.value (tree_of variables s e)
@@ -85,8 +100,10 @@ item_tree variables s (constant characters) = tree.text characters
 -- an executable statement but DO; STOP, END and declarations have no node
 abbrev pub statement_tree : List Name → Scene → ℕ → StatementForm → List Statement
 statement_tree variables s line (assign a) = assignment_tree variables s line None a ∷ []
-statement_tree variables s line (logical_if c a) = assignment_tree variables s line (Some (guard_of s c)) a ∷ []
-statement_tree variables s line (print items) = tree.work (tree.print (record { items = map (item_tree variables s) items; line = line })) ∷ []
+statement_tree variables s line (logical_if c a) =
+    assignment_tree variables s line (Some (guard_of s c)) a ∷ []
+statement_tree variables s line (print items) =
+    tree.work (tree.print (record { items = map (item_tree variables s) items; line = line })) ∷ []
 statement_tree variables s line continue = tree.continue line ∷ []
 statement_tree variables s line f = []
 
@@ -103,7 +120,13 @@ step_value s None = pos 1
 step_value s (Some e) = value_of s e
 
 abbrev pub head_of : Scene → ℕ → DoForm → Head
-head_of s line d = record { number = s.loops + 1; m1 = form_of s d.first; m2 = form_of s d.last; step = step_value s d.step; line = line }
+head_of s line d = record {
+  number = s.loops + 1;
+  m1 = form_of s d.first;
+  m2 = form_of s d.last;
+  step = step_value s d.step;
+  line = line;
+}
 
 -- a loop whose terminal statement is still to come, with what stands in front of it in the body of the loop round it
 pub record Begun : Type 0 where
@@ -124,12 +147,21 @@ first_body = record { begun = []; items = [] }
 
 -- behind a DO statement the body of its loop begins
 abbrev pub body_behind_do : Scene → ℕ → DoForm → Body → Body
-body_behind_do s line d body = record { begun = record { label = decimal d.label; head = head_of s line d; front = body.items } ∷ body.begun; items = [] }
+body_behind_do s line d body = record {
+  begun = record {
+    label = decimal d.label;
+    head = head_of s line d;
+    front = body.items;
+  } ∷ body.begun;
+  items = [];
+}
 
 -- a statement with this label ends the open loops of that label, the innermost first
 abbrev pub closed : ℕ → List Begun → List Statement → Body
 closed label [] items = record { begun = []; items = items }
-closed label (b ∷ begun) items = if b.label == label then closed label begun (b.front ++ tree.do_loop b.head (in_a_row items) ∷ []) else record { begun = b ∷ begun; items = items }
+closed label (b ∷ begun) items = if b.label == label
+    then closed label begun (b.front ++ tree.do_loop b.head (in_a_row items) ∷ [])
+    else record { begun = b ∷ begun; items = items }
 
 -- the tree behind a statement that begins at this line, where the variables are numbered as they stand here
 abbrev pub body_behind : List Name → Scene → ℕ → ℕ → StatementForm → Body → Body
@@ -138,4 +170,5 @@ body_behind variables s line label (integer ds) body = body
 body_behind variables s line label (dimension ds) body = body
 body_behind variables s line label (parameter ds) body = body
 body_behind variables s line label (do_loop d) body = body_behind_do s line d body
-body_behind variables s line label f body = closed label body.begun (body.items ++ statement_tree variables s line f)
+body_behind variables s line label f body =
+    closed label body.begun (body.items ++ statement_tree variables s line f)

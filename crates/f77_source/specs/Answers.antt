@@ -16,6 +16,7 @@ Refuses first (BadSetting index) = first ≡ Some (scene.bad_setting index)
 Refuses first NoMemory = Unit {0}
 
 -- What is listed has no fault with these settings, and stands for this program.
-pub record IsProgram (entries : List Entry) (settings : List (Name × ℤ)) (program : Tree) : Type 0 where
+pub record IsProgram (entries : List Entry) (settings : List (Name × ℤ)) (program : Tree) :
+    Type 0 where
   pub faultless : first_fault_in entries settings ≡ None
   pub stands : program ≡ program_in entries settings

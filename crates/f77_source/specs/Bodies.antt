@@ -9,7 +9,17 @@ use Rattle.f77_source.specs.declared.body.Begun.{Begun}
 use Rattle.f77_source.specs.declared.body.Body.{Body}
 
 abbrev pub begun_of : Begun → trees.Begun
-begun_of b = record { label = b.label; head = record { number = b.number; m1 = b.m1; m2 = b.m2; step = b.step; line = b.line }; front = map statement_of b.front.items }
+begun_of b = record {
+  label = b.label;
+  head = record {
+    number = b.number;
+    m1 = b.m1;
+    m2 = b.m2;
+    step = b.step;
+    line = b.line;
+  };
+  front = map statement_of b.front.items;
+}
 
 abbrev pub body_of : Body → trees.Body
 body_of b = record { begun = map begun_of b.begun.items; items = map statement_of b.items.items }

@@ -13,7 +13,12 @@ use Rattle.f77_source.specs.Forms.{form_at}
 
 abbrev pub call_tree : List Name → Scene → Name → List Expr → List Measure → Expression
 call_tree variables s n operands measures =
-    if is_array s n then tree.load (record { variable = number_among variables n; subscripts = map form_at measures }) else chosen_tree n (expressions_from operands)
+    if is_array s n
+    then tree.load (record {
+      variable = number_among variables n;
+      subscripts = map form_at measures;
+    })
+    else chosen_tree n (expressions_from operands)
 
 abbrev pub binary_tree : Operator → Expression → Expression → ℤ → Expression
 binary_tree Add a b divisor = tree.add a b

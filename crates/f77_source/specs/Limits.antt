@@ -6,7 +6,8 @@ use Rattle.f77_scene.specs.Scene.{Scene, Array}
 
 -- one to three dimensions, each with good bounds
 abbrev pub is_good_array : Array → Bool
-is_good_array a = list_all is_good_dimension a.bounds && nat_le 1 (length a.bounds) && nat_le (length a.bounds) 3
+is_good_array a =
+    list_all is_good_dimension a.bounds && nat_le 1 (length a.bounds) && nat_le (length a.bounds) 3
 
 -- at most 400 statements stand in front, no more loops have begun or are open, and the arrays are good
 pub record KeepsLimits (s : Scene) : Type 0 where

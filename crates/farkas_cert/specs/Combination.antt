@@ -32,17 +32,26 @@ sum_at vars rows terms k = total (products_at vars rows terms k)
 
 -- the row that a step makes: the quotients of the coefficients, and that of the bound rounded down
 abbrev pub made_row : ℕ → List Row → Step → Row
-made_row vars rows step = record { coefs = map (λ k. int_div (sum_at vars rows step.terms k) step.divisor) (range_with_len 0 vars); bound = int_div_euclid (sum_at vars rows step.terms vars) step.divisor }
+made_row vars rows step = record {
+  coefs = map
+      (λ k. int_div (sum_at vars rows step.terms k) step.divisor) (range_with_len 0 vars);
+  bound = int_div_euclid (sum_at vars rows step.terms vars) step.divisor;
+}
 
 -- each product is narrow, and so is each running sum of them, from this sum on
 abbrev pub stays_narrow : ℤ → List ℤ → Bool
 stays_narrow sum [] = true
-stays_narrow sum (p ∷ products) = is_narrow p && is_narrow (sum +ℤ p) && stays_narrow (sum +ℤ p) products
+stays_narrow sum (p ∷ products) =
+    is_narrow p && is_narrow (sum +ℤ p) && stays_narrow (sum +ℤ p) products
 
 -- 2 * i - 2 * j <= 1, halved, is i - j <= 0
-pub made_row-example : made_row 2 (record { coefs = pos 2 ∷ negsuc 1 ∷ []; bound = pos 1 } ∷ []) (record { divisor = pos 2; terms = (1, pos 1) ∷ [] }) ≡ record { coefs = pos 1 ∷ negsuc 0 ∷ []; bound = pos 0 }
+pub made_row-example : made_row 2 (record { coefs = pos 2 ∷ negsuc 1 ∷ []; bound = pos 1 } ∷ [])
+    (record { divisor = pos 2; terms = (1, pos 1) ∷ [] })
+    ≡ record { coefs = pos 1 ∷ negsuc 0 ∷ []; bound = pos 0 }
 made_row-example = refl
 
 -- and so is - 2 * i <= - 1: - i <= - 1
-pub made_row-below_zero : made_row 1 (record { coefs = negsuc 1 ∷ []; bound = negsuc 0 } ∷ []) (record { divisor = pos 2; terms = (1, pos 1) ∷ [] }) ≡ record { coefs = negsuc 0 ∷ []; bound = negsuc 0 }
+pub made_row-below_zero : made_row 1 (record { coefs = negsuc 1 ∷ []; bound = negsuc 0 } ∷ [])
+    (record { divisor = pos 2; terms = (1, pos 1) ∷ [] })
+    ≡ record { coefs = negsuc 0 ∷ []; bound = negsuc 0 }
 made_row-below_zero = refl

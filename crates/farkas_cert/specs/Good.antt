@@ -11,14 +11,16 @@ use Rattle.farkas_cert.specs.Combination.{products_at, sum_at, made_row, stays_n
 pub record IsGoodStep (vars : ℕ) (rows : List Row) (step : Step) : Type 0 where
   pub multipliers : All (λ t. pos 0 ≤ℤ t.1) step.terms
   pub named : All (λ t. (1 ≤ t.0) × (t.0 ≤ length rows)) step.terms
-  pub narrow : (k : ℕ) → k ≤ vars → IsTrue (stays_narrow (pos 0) (products_at vars rows step.terms k))
+  pub narrow : (k : ℕ) → k ≤ vars → IsTrue
+      (stays_narrow (pos 0) (products_at vars rows step.terms k))
   pub divisor : pos 1 ≤ℤ step.divisor
   pub divides : (k : ℕ) → k < vars → int_rem (sum_at vars rows step.terms k) step.divisor ≡ pos 0
 
 -- each step is good over the rows before it: these, and those that the steps before it make
 abbrev pub AreGoodSteps : ℕ → List Row → List Step → Type 0
 AreGoodSteps vars rows [] = Unit {0}
-AreGoodSteps vars rows (step ∷ steps) = IsGoodStep vars rows step × AreGoodSteps vars (rows ++ made_row vars rows step ∷ []) steps
+AreGoodSteps vars rows (step ∷ steps) =
+    IsGoodStep vars rows step × AreGoodSteps vars (rows ++ made_row vars rows step ∷ []) steps
 
 -- these rows, then those that the steps make
 abbrev pub rows_after : ℕ → List Row → List Step → List Row

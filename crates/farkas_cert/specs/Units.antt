@@ -13,5 +13,6 @@ abbrev pub most_units : ℕ → List Step → ℕ
 most_units vars steps = (term_count steps + length steps) * (vars + 1)
 
 -- two steps with three terms, over two variables
-pub most_units-example : most_units 2 (record { divisor = pos 2; terms = (1, pos 1) ∷ [] } ∷ record { divisor = pos 1; terms = (2, pos 1) ∷ (3, pos 1) ∷ [] } ∷ []) ≡ 15
+pub most_units-example : most_units 2 (record { divisor = pos 2; terms = (1, pos 1) ∷ [] }
+    ∷ record { divisor = pos 1; terms = (2, pos 1) ∷ (3, pos 1) ∷ [] } ∷ []) ≡ 15
 most_units-example = refl

@@ -24,4 +24,5 @@ abbrev pub IsLineOf : CellForm → List Round → Line → Type 0
 IsLineOf form rounds line = (v : ℤ) → cell_at form (by_depth (at_value rounds v)) ≡ cell_on line v
 
 abbrev pub IsLoadLine : LoadCells → List Round → Line → Type 0
-IsLoadLine load rounds line = (v : ℤ) → first_of_load (by_depth (at_value rounds v)) load ≡ cell_on line v
+IsLoadLine load rounds line =
+    (v : ℤ) → first_of_load (by_depth (at_value rounds v)) load ≡ cell_on line v

@@ -39,7 +39,8 @@ pairs_of level = level.pairs
 pub record IsLevel (level : Level) : Type 0 where
   pub order : NamesEachOnce (system_of level).vars (order_of level)
   pub gone : gone_of level ≤ length (order_of level)
-  pub reached : IsReached (system_of level) (order_of level) (gone_of level) level.most level.log.items level.rows
+  pub reached : IsReached (system_of level) (order_of level) (gone_of level) level.most
+      level.log.items level.rows
   pub work : IsWork (system_of level) (order_of level) (gone_of level) (pairs_of level)
   pub soon : pairs_of level ≤ 65536
 
@@ -53,7 +54,8 @@ pub record IsExtension (level : Level) (whole : Inequalities) (order : List ℕ)
   pub vars : whole.vars ≡ (system_of level).vars
   pub rows : whole.rows ≡ (system_of level).rows ++ further
   pub begins : (j : ℕ) → j < gone_of level → slice_index (order_of level) j ≡ slice_index order j
-  pub without : (j : ℕ) → j < gone_of level → All (λ r. coef_of (slice_index order j) r ≡ pos 0) further
+  pub without : (j : ℕ) → j < gone_of level
+      → All (λ r. coef_of (slice_index order j) r ≡ pos 0) further
   pub few : most_of level + length further ≤ 20000
 
 -- one variable more is gone
@@ -67,9 +69,12 @@ pub record IsNextOf (old new : Level) : Type 0 where
 pub record IsAnswerAt (level : Level) (answer : Answer) : Type 0 where
   pub decided : IsDecided (system_of level) (order_of level) answer
   pub lean : IfInfeasible answer (λ c. IsLean (system_of level) c)
-  pub wide : IfWide answer (λ k upper lower. (k ≡ gone_of level + 1) × IsFreeOfClashes (IsDerived (system_of level) (order_of level) (k - 1)))
-  pub many : IfMany answer (λ k count. (k ≡ gone_of level + 1) × IsFreeOfClashes (IsDerived (system_of level) (order_of level) (k - 1)))
-  pub work : IfWork answer (λ k pairs. (k ≡ gone_of level + 1) × IsFreeOfClashes (IsDerived (system_of level) (order_of level) (k - 1)))
+  pub wide : IfWide answer (λ k upper lower. (k ≡ gone_of level + 1)
+      × IsFreeOfClashes (IsDerived (system_of level) (order_of level) (k - 1)))
+  pub many : IfMany answer (λ k count. (k ≡ gone_of level + 1)
+      × IsFreeOfClashes (IsDerived (system_of level) (order_of level) (k - 1)))
+  pub work : IfWork answer (λ k pairs. (k ≡ gone_of level + 1)
+      × IsFreeOfClashes (IsDerived (system_of level) (order_of level) (k - 1)))
 
 -- the next level, or an answer
 abbrev pub IsAdvance : Level → Advance → Type 0

@@ -21,7 +21,8 @@ abbrev pub HasRationalSolution : Inequalities → Type 0
 HasRationalSolution system = (x : List ℤ) × (d : ℤ) × IsRationalSolution system x d
 
 -- level k + 1 combines these two derived rows of level k, and that combination is wide
-pub record IsWidePair (system : Inequalities) (order : List ℕ) (k : ℕ) (upper lower : Row) : Type 0 where
+pub record IsWidePair (system : Inequalities) (order : List ℕ) (k : ℕ) (upper lower : Row) :
+    Type 0 where
   pub m : ℤ
   pub n : ℤ
   pub has_upper : IsDerived system order k upper
@@ -90,7 +91,8 @@ pub record IsOpen (system : Inequalities) (order : List ℕ) : Type 0 where
   pub solved : HasRationalSolution system
 
 -- kept as Wide at level k, which is one of those from 1 on: the levels before it are formed whole, those up to it of at most 65,536 pairs, and these two rows of level k - 1 have a wide combination
-pub record IsWideAt (system : Inequalities) (order : List ℕ) (k : ℕ) (upper lower : Row) : Type 0 where
+pub record IsWideAt (system : Inequalities) (order : List ℕ) (k : ℕ) (upper lower : Row) :
+    Type 0 where
   pub low : 1 ≤ k
   pub high : k ≤ system.vars
   pub passed : IsPassedTo system order (k - 1)

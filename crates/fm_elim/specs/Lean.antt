@@ -13,7 +13,9 @@ Names step number = Any (λ t. t.0 ≡ number) step.terms
 
 -- each step but the last is named by a term of a later step
 abbrev pub IsLean : Inequalities → Certificate → Type 0
-IsLean system certificate = (k : ℕ) → k + 1 < length certificate.steps → (later : ℕ) × (k < later) × IsSomeAnd (slice_get certificate.steps later) (λ step. Names step (length system.rows + k + 1))
+IsLean system certificate = (k : ℕ) → k + 1 < length certificate.steps
+    → (later : ℕ) × (k < later) × IsSomeAnd (slice_get certificate.steps later)
+    (λ step. Names step (length system.rows + k + 1))
 
 -- the row with this number, from 1, is marked
 abbrev pub IsMarked : List Bool → ℕ → Type 0
@@ -23,14 +25,20 @@ IsMarked marks number = slice_index_or marks (number - 1) false ≡ true
 pub record AreMarkedToo (old : List Bool) (terms : Step) (new : List Bool) : Type 0 where
   pub kept : (number : ℕ) → IsMarked old number → IsMarked new number
   pub named : All (λ t. IsMarked new t.0) terms.terms
-  pub only : (number : ℕ) → 1 ≤ number → IsMarked new number → IsMarked old number ⊎ Names terms number
+  pub only : (number : ℕ) → 1 ≤ number → IsMarked new number
+      → IsMarked old number ⊎ Names terms number
 
 -- what the last derivation needs is marked, as far as the derivations from this place on tell: its own row, and the rows that a marked derivation names; and of the derived rows no other
-pub record AreNeeded (given : ℕ) (log : List Derivation) (low : ℕ) (marks : List Bool) : Type 0 where
+pub record AreNeeded (given : ℕ) (log : List Derivation) (low : ℕ) (marks : List Bool) :
+    Type 0 where
   pub whole : length marks ≡ given + length log
   pub last : IsMarked marks (given + length log)
-  pub named : (k : ℕ) (d : Derivation) → low ≤ k → k < length log → IsMarked marks (given + k + 1) → All (λ t. IsMarked marks t.0) (step_of (slice_index_or log k d)).terms
-  pub only : (k : ℕ) (d : Derivation) → k + 1 < length log → IsMarked marks (given + k + 1) → (later : ℕ) × (k < later) × (low ≤ later) × (later < length log) × IsMarked marks (given + later + 1) × Names (step_of (slice_index_or log later d)) (given + k + 1)
+  pub named : (k : ℕ) (d : Derivation) → low ≤ k → k < length log → IsMarked marks (given + k + 1)
+      → All (λ t. IsMarked marks t.0) (step_of (slice_index_or log k d)).terms
+  pub only : (k : ℕ) (d : Derivation) → k + 1 < length log → IsMarked marks (given + k + 1)
+      → (later : ℕ) × (k < later) × (low ≤ later) × (later < length log)
+      × IsMarked marks (given + later + 1) × Names (step_of (slice_index_or log later d))
+      (given + k + 1)
 
 -- the step with a new number for each row
 abbrev pub renamed : (ℕ → ℕ) → Step → Step

@@ -16,7 +16,8 @@ pub record IsExact (set : Row → Type 0) (rows : List Row) : Type 0 where
   pub only : (r : Row) → Contains rows r → set r
 
 -- the rows are exactly those of level k, each with its number, by which the log derives it; no level from 1 to k has more than so many rows, which are at most 20,000, and none of the pairs that these levels were formed from is wide
-pub record IsReached (system : Inequalities) (order : List ℕ) (k most : ℕ) (log : List Derivation) (level : HeldRows) : Type 0 where
+pub record IsReached (system : Inequalities) (order : List ℕ) (k most : ℕ) (log : List Derivation)
+    (level : HeldRows) : Type 0 where
   pub full : AreFull system.vars system.rows
   pub steps : IsLog system log
   pub held : All (IsHeld system log) level.rows.items

@@ -37,7 +37,8 @@ pub record IsShut (c : Cursor) : Type 0 where
   pub standing : Standing
   pub none : places_pending standing.pending ≡ []
   pub unseen : is_watched Arrive (cursor_plan c) ≡ false → IsUnseen standing
-  pub is : cursor_turns c ≡ turns_by Arrive (cursor_tree c) (cursor_plan c) (cursor_processor c) standing (cursor_left c)
+  pub is : cursor_turns c ≡ turns_by Arrive (cursor_tree c) (cursor_plan c) (cursor_processor c)
+      standing (cursor_left c)
 
 pub record IsCursor (c : Cursor) : Type 0 where
   pub sound : AreSound c.turns

@@ -21,5 +21,6 @@ IsLast e = e.memory ≡ last_memory (tree_of e.program)
 -- how it is stored in proofs
 abbrev pub end_code : Coded End
 end_code =
-    code_by (Program × (Plan × List ℤ)) (coded× programs.the_row.coded (coded× plans.the_row.coded (coded_list coded_ℤ))) (λ e. (e.program, (e.plan, e.memory)))
+    code_by (Program × (Plan × List ℤ)) (coded× programs.the_row.coded
+    (coded× plans.the_row.coded (coded_list coded_ℤ))) (λ e. (e.program, (e.plan, e.memory)))
     (λ x. record { program = x.0; plan = x.1.0; memory = x.1.1 }) (λ _. refl)

@@ -21,20 +21,26 @@ no_deed = posting counter 0
 abbrev pub seen_deed : (to from : ℕ → ℕ) → ℕ → Deed → Deed
 seen_deed to from cells (posting word number) = no_deed
 seen_deed to from cells (awaiting word on wanted) = no_deed
-seen_deed to from cells (loading cell) = if is_seen to from cells cell then loading (from cell) else no_deed
-seen_deed to from cells (storing cell value) = if is_seen to from cells cell then storing (from cell) value else no_deed
+seen_deed to from cells (loading cell) =
+    if is_seen to from cells cell then loading (from cell) else no_deed
+seen_deed to from cells (storing cell value) =
+    if is_seen to from cells cell then storing (from cell) value else no_deed
 seen_deed to from cells (adding cell value) = no_deed
 seen_deed to from cells (printing line) = printing line
 
 -- the cell that all share for a cell of processor p in the static phase with a place
 abbrev pub shared_for : Tree → Plan → ℕ → ℕ → ℕ → ℕ
-shared_for tree plan place p cell = if nat_lt cell (cell_count tree) then cell else first_cell tree (scalar_at (own_loop tree plan place) (cell - cell_count tree - 32 * p))
+shared_for tree plan place p cell = if nat_lt cell (cell_count tree)
+    then cell
+    else first_cell tree (scalar_at (own_loop tree plan place) (cell - cell_count tree - 32 * p))
 
 -- in that phase
 abbrev pub phase_deed : Tree → Plan → ℕ → ℕ → Deed → Deed
-phase_deed tree plan place p d = seen_deed (own_cell (own_of tree plan place) p) (shared_for tree plan place p) (cell_count tree) d
+phase_deed tree plan place p d = seen_deed (own_cell (own_of tree plan place) p)
+    (shared_for tree plan place p) (cell_count tree) d
 
 -- the static phase with a place has few own scalars, and a way to look for them fits it
-pub record FindsOwn (tree : Tree) (plan : Plan) (place : ℕ) (fits : Tree → Plan → ℕ → Type 0) : Type 0 where
+pub record FindsOwn (tree : Tree) (plan : Plan) (place : ℕ) (fits : Tree → Plan → ℕ → Type 0) :
+    Type 0 where
   pub few : AreFew tree (own_loop tree plan place)
   pub fit : fits tree plan place

@@ -36,7 +36,8 @@ pub record CanExecute (x : Executor) : Type 0 where
   pub loops : loops_of (executor_tree x).items ≤ length x.loops.items
   pub lines : most_registers x.codes ≤ length x.lines.items
   pub registers : most_registers x.codes ≤ length x.registers.items
-  pub room : (n : ℕ) (cells : WorkCells) → slice_get (entries x.table.now) n ≡ Some cells → widths cells.loads.items ≤ length x.registers.items
+  pub room : (n : ℕ) (cells : WorkCells) → slice_get (entries x.table.now) n ≡ Some cells
+      → widths cells.loads.items ≤ length x.registers.items
 
 -- its values of loops by number are those of these loops, and of others whatever they were
 pub record AreWritten (x : Executor) (rounds : List Round) : Type 0 where
@@ -45,7 +46,8 @@ pub record AreWritten (x : Executor) (rounds : List Round) : Type 0 where
   pub is : x.loops.items ≡ with_rounds before rounds
 
 -- the instance at a stop with these loops round it comes next, and each access of it is in range
-pub record Begins (tree : Tree) (rounds : List Round) (stop : Stop) (left : List Deed) : Type 0 where
+pub record Begins (tree : Tree) (rounds : List Round) (stop : Stop) (left : List Deed) :
+    Type 0 where
   pub at : IsInstance tree rounds stop
   pub inside : is_instance_inside tree at.instance ≡ true
   pub rest : List Deed

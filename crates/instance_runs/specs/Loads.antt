@@ -15,7 +15,8 @@ widths loads = sum_by width loads
 
 -- every load of a table gives a value
 abbrev pub AreWide : List WorkCells → Type 0
-AreWide entries = (n k : ℕ) (cells : WorkCells) (l : LoadCells) → slice_get entries n ≡ Some cells → slice_get cells.loads.items k ≡ Some l → 0 < width l
+AreWide entries = (n k : ℕ) (cells : WorkCells) (l : LoadCells) → slice_get entries n ≡ Some cells
+    → slice_get cells.loads.items k ≡ Some l → 0 < width l
 
 -- the cell of a load whose elements up to this one are loaded, where the loops have these values by depth
 abbrev pub cell_of_load : List ℤ → LoadCells → ℕ → ℕ

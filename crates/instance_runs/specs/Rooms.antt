@@ -35,7 +35,8 @@ StayOpen old new = (n : ℕ) → is_closed old n ≡ false → is_closed new n �
 -- no PRINT stands in a loop that is marked
 abbrev mutual
   pub IsSilent : List Bool → Statement → Type 0
-  IsSilent marks (do_loop head body) = (is_closed marks head.number ≡ true → have_print body ≡ false) × AreSilent marks body
+  IsSilent marks (do_loop head body) =
+      (is_closed marks head.number ≡ true → have_print body ≡ false) × AreSilent marks body
   IsSilent marks (work w) = Unit {0}
   IsSilent marks (continue line) = Unit {0}
 
@@ -46,7 +47,8 @@ abbrev mutual
 -- a loop with a PRINT inside stands there whose number is one more
 abbrev mutual
   pub is_printing_in : ℕ → Statement → Bool
-  is_printing_in k (do_loop head body) = (head.number - 1 == k && have_print body) || is_printing_among k body
+  is_printing_in k (do_loop head body) =
+      (head.number - 1 == k && have_print body) || is_printing_among k body
   is_printing_in k (work w) = false
   is_printing_in k (continue line) = false
 
@@ -56,4 +58,5 @@ abbrev mutual
 
 -- no value, or as many as some piece of work loads
 abbrev pub IsReached : List WorkCells → ℕ → Type 0
-IsReached entries n = (n ≡ 0) ⊎ ((k : ℕ) × (cells : WorkCells) × (slice_get entries k ≡ Some cells) × (widths cells.loads.items ≡ n))
+IsReached entries n = (n ≡ 0) ⊎ ((k : ℕ) × (cells : WorkCells) × (slice_get entries k ≡ Some cells)
+    × (widths cells.loads.items ≡ n))

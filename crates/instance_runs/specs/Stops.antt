@@ -16,4 +16,5 @@ pub record IsInstance (tree : Tree) (rounds : List Round) (stop : Stop) : Type 0
   pub instance : Instance
   pub is : instances_at (param_values tree) (visit_at tree rounds stop) ≡ instance ∷ []
   pub reached : IsTrue (is_reached tree rounds stop)
-  pub text : StandFrom (Texts.works tree) stop.first (placed_in every (numbers_of rounds) (statement_of stop.item.now))
+  pub text : StandFrom (Texts.works tree) stop.first
+      (placed_in every (numbers_of rounds) (statement_of stop.item.now))

@@ -24,14 +24,17 @@ use Rattle.sync_plan.specs.Shape.{is_doall, is_good_anchor, is_sum_mark, mark_of
 
 -- processor 0, whatever the loops' values
 abbrev pub first_processor : Anchor
-first_processor = record { form = record { constant = pos 0; loops = []; params = [] }; dist = Cyclic }
+first_processor =
+    record { form = record { constant = pos 0; loops = []; params = [] }; dist = Cyclic }
 
 -- so many places in equal blocks, one for each worker, or in turn where a block would be longer than a plan's may be
 abbrev pub block_for : ℕ → ℕ → ℕ
 block_for workers places = max 1 (div_ceil places workers)
 
 abbrev pub in_blocks : ℕ → ℕ → Dist
-in_blocks workers places = if nat_le (block_for workers places) 2147483647 then Block (block_for workers places) else Cyclic
+in_blocks workers places = if nat_le (block_for workers places) 2147483647
+    then Block (block_for workers places)
+    else Cyclic
 
 abbrev pub dealt_as : Spread → ℕ → ℕ → Dist
 dealt_as Blocks workers places = in_blocks workers places
@@ -45,14 +48,17 @@ less f low = record { constant = f.constant -ℤ low; loops = f.loops; params = 
 abbrev pub along : ℕ → Spread → Option Form → Option (ℤ × ℤ) → Option Anchor
 along workers spread None bounds = None
 along workers spread (Some f) None = None
-along workers spread (Some f) (Some bounds) = Some (record { form = less f bounds.0; dist = dealt_as spread workers (extent bounds) })
+along workers spread (Some f) (Some bounds) =
+    Some (record { form = less f bounds.0; dist = dealt_as spread workers (extent bounds) })
 
 abbrev pub along_axis : ℕ → List Form → Option Declaration → Option Anchor
 along_axis workers subscripts None = None
-along_axis workers subscripts (Some v) = along workers v.spread (slice_get subscripts (v.axis - 1)) (slice_get v.bounds (v.axis - 1))
+along_axis workers subscripts (Some v) =
+    along workers v.spread (slice_get subscripts (v.axis - 1)) (slice_get v.bounds (v.axis - 1))
 
 abbrev pub element_anchor : Tree → ℕ → Access → Option Anchor
-element_anchor tree workers a = along_axis workers a.subscripts (slice_get tree.variables (a.variable - 1))
+element_anchor tree workers a =
+    along_axis workers a.subscripts (slice_get tree.variables (a.variable - 1))
 
 -- an anchor, if a phase's may be so: it names only these loops, its numbers are small, and its block has a length
 abbrev pub if_good : ℕ → List ℕ → Anchor → Option Anchor
@@ -98,7 +104,9 @@ if_one_names n (Some a) = if_names n a
 -- of a Sum loop: the first element that it loads whose place is such an anchor and names the loop, so that its trips are added up where their data lies
 abbrev pub summed_anchor : List Mark → (Access → Option Anchor) → Statement → Option Anchor
 summed_anchor marks f (do_loop head body) =
-    if is_sum_mark (mark_of marks head.number) then loaded_anchor (λ a. if_one_names head.number (f a)) (do_loop head body) else None
+    if is_sum_mark (mark_of marks head.number)
+    then loaded_anchor (λ a. if_one_names head.number (f a)) (do_loop head body)
+    else None
 summed_anchor marks f (work w) = None
 summed_anchor marks f (continue line) = None
 
@@ -115,11 +123,15 @@ abbrev pub value_of : ℕ → Form
 value_of n = record { constant = pos 0; loops = (n, pos 1) ∷ []; params = [] }
 
 abbrev pub value_anchor : ℕ → ℕ → ℤ × ℕ → Anchor
-value_anchor workers n (low, width) = record { form = less (value_of n) low; dist = in_blocks workers width }
+value_anchor workers n (low, width) =
+    record { form = less (value_of n) low; dist = in_blocks workers width }
 
 -- of a Doall loop its own value
 abbrev pub own_anchor : Tree → List Mark → ℕ → ℕ → Statement → Option Anchor
-own_anchor tree marks workers u (do_loop head body) = if is_doall (mark_of marks head.number) then Some (value_anchor workers head.number (span_of head.number (phase_ends tree marks (u - 1)))) else None
+own_anchor tree marks workers u (do_loop head body) = if is_doall (mark_of marks head.number)
+    then Some (value_anchor workers head.number
+    (span_of head.number (phase_ends tree marks (u - 1))))
+    else None
 own_anchor tree marks workers u (work w) = None
 own_anchor tree marks workers u (continue line) = None
 
@@ -134,24 +146,29 @@ placed_anchor tree marks workers u (Some a) = unless_misplaced (misplaced tree m
 
 -- the anchor of an element's owner in front of the static phase with this number, where it names no loop but these
 abbrev pub element_owner : Tree → List Mark → ℕ → ℕ → List ℕ → Access → Option Anchor
-element_owner tree marks workers u loops a = option_map (λ b. unless_misplaced (misplaced tree marks workers u b) b) (if_one_good (length tree.params) loops (element_anchor tree workers a))
+element_owner tree marks workers u loops a = option_map
+    (λ b. unless_misplaced (misplaced tree marks workers u b) b)
+    (if_one_good (length tree.params) loops (element_anchor tree workers a))
 
 -- the first that is good: of what a phase stores, of what a Sum phase loads, and its own loop's value
 abbrev pub anchor_sought : Tree → List Mark → ℕ → ℕ → List ℕ → Statement → Option Anchor
 anchor_sought tree marks workers u loops what =
     let good = if_one_good (length tree.params) loops in
     option_or (stored_anchor (λ a. good (element_anchor tree workers a)) what)
-    (option_or (summed_anchor marks (λ a. good (element_anchor tree workers a)) what) (good (own_anchor tree marks workers u what)))
+    (option_or (summed_anchor marks (λ a. good (element_anchor tree workers a)) what)
+    (good (own_anchor tree marks workers u what)))
 
 -- the anchor of the static phase with this number: processor 0 where it prints; else the one that is sought; else processor 0
 abbrev pub phase_anchor : Tree → List Mark → ℕ → ℕ → Placed → Anchor
 phase_anchor tree marks workers u s =
     if has_print s.what then first_processor
-    else placed_anchor tree marks workers u (anchor_sought tree marks workers u (own_loops marks s.what s.around) s.what)
+    else placed_anchor tree marks workers u
+    (anchor_sought tree marks workers u (own_loops marks s.what s.around) s.what)
 
 abbrev pub anchors_from : Tree → List Mark → ℕ → ℕ → List Placed → List Anchor
 anchors_from tree marks workers u [] = []
-anchors_from tree marks workers u (s ∷ rest) = phase_anchor tree marks workers u s ∷ anchors_from tree marks workers (suc u) rest
+anchors_from tree marks workers u (s ∷ rest) =
+    phase_anchor tree marks workers u s ∷ anchors_from tree marks workers (suc u) rest
 
 -- the anchors of the static phases under a cut, for so many workers
 abbrev pub maker_anchors : Tree → List Mark → ℕ → List Anchor

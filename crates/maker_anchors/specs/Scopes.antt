@@ -24,11 +24,13 @@ loops_at s = with_own s.own (loops_round s.phase.now)
 
 -- the anchor of what an assignment stores, and of a Doall loop's value, if it is good
 abbrev pub good_element_anchor : Scope → Access → Option Anchor
-good_element_anchor s a = if_one_good (constants_at s) (loops_at s) (element_anchor (tree_of s.program.now) s.workers a)
+good_element_anchor s a =
+    if_one_good (constants_at s) (loops_at s) (element_anchor (tree_of s.program.now) s.workers a)
 
 abbrev pub own_value : Scope → List Mark → ℕ → Option ℕ → Option Anchor
 own_value s marks u None = None
-own_value s marks u (Some n) = Some (value_anchor s.workers n (span_of n (phase_ends (tree_of s.program.now) marks (u - 1))))
+own_value s marks u (Some n) =
+    Some (value_anchor s.workers n (span_of n (phase_ends (tree_of s.program.now) marks (u - 1))))
 
 abbrev pub good_own_anchor : Scope → List Mark → ℕ → Option Anchor
 good_own_anchor s marks u = if_one_good (constants_at s) (loops_at s) (own_value s marks u s.own)
@@ -45,8 +47,10 @@ sought_in s (Loaded n) a = first_of (good_load_anchor s n) (loads_in a.value)
 -- of a Sum loop, the first good anchor of what it loads that names it
 abbrev pub sum_anchor : Scope → List Mark → Statement → Option ℕ → Option Anchor
 sum_anchor s marks what None = None
-sum_anchor s marks what (Some n) = if is_sum_mark (mark_of marks n) then first_found (sought_in s (Loaded n)) what else None
+sum_anchor s marks what (Some n) =
+    if is_sum_mark (mark_of marks n) then first_found (sought_in s (Loaded n)) what else None
 
 -- the first good anchor of what a phase stores, of what a Sum phase loads, and of its own loop's value
 abbrev pub found_anchor : Scope → List Mark → ℕ → Statement → Option Anchor
-found_anchor s marks u what = option_or (first_found (sought_in s Stored) what) (option_or (sum_anchor s marks what s.own) (good_own_anchor s marks u))
+found_anchor s marks u what = option_or (first_found (sought_in s Stored) what)
+    (option_or (sum_anchor s marks what s.own) (good_own_anchor s marks u))

@@ -9,11 +9,13 @@ use Rattle.owner_partition.specs.Owners.{dealt, has_places, is_same_dist, is_sam
 
 -- what a form comes to where all loops are 0, if it names no constants but those with these values
 abbrev pub fixed_value : List ℤ → Form → Option ℤ
-fixed_value values f = if reach_within (length values) f.params then Some (f.constant +ℤ dot f.params values) else None
+fixed_value values f =
+    if reach_within (length values) f.params then Some (f.constant +ℤ dot f.params values) else None
 
 -- two values are of one processor: they are the same, and dealt out the same way; or no loop adds to them, and the processors are the same
 abbrev pub is_same_deal : ℕ → List (ℕ × ℤ) → Dist → ℤ → Dist → ℤ → Bool
-is_same_deal workers [] d v e w = has_places d && has_places e && int_eq (dealt d workers v) (dealt e workers w)
+is_same_deal workers [] d v e w =
+    has_places d && has_places e && int_eq (dealt d workers v) (dealt e workers w)
 is_same_deal workers (l ∷ loops) d v e w = is_same_dist d e && int_eq v w
 
 abbrev pub is_same_one : ℕ → List (ℕ × ℤ) → Dist → Option ℤ → Dist → Option ℤ → Bool
@@ -24,4 +26,6 @@ is_same_one workers loops d (Some v) e (Some w) = is_same_deal workers loops d v
 -- two anchors name the same processor among so many wherever the loops are, at these values of the named constants
 abbrev pub says_same : List ℤ → ℕ → Anchor → Anchor → Bool
 says_same values workers a b =
-    pointwise is_same_pair a.form.loops b.form.loops && is_same_one workers a.form.loops a.dist (fixed_value values a.form) b.dist (fixed_value values b.form)
+    pointwise is_same_pair a.form.loops b.form.loops
+    && is_same_one workers a.form.loops a.dist (fixed_value values a.form) b.dist
+    (fixed_value values b.form)

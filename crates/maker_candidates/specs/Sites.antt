@@ -8,4 +8,8 @@ use Rattle.maker_candidates.specs.declared.site.Site.{Site}
 
 -- the phase has this number
 abbrev pub IsNumbered : Site → Type 0
-IsNumbered s = slice_get (placed (tree_of s.program.now) (enters_outer s.plan.now.cut.marks)) (s.number - 1) ≡ Some (record { what = statement_of s.phase.now.text.item.now; around = loops_round s.phase.now.text })
+IsNumbered s = slice_get (placed (tree_of s.program.now) (enters_outer s.plan.now.cut.marks))
+    (s.number - 1) ≡ Some (record {
+      what = statement_of s.phase.now.text.item.now;
+      around = loops_round s.phase.now.text;
+    })

@@ -9,7 +9,8 @@ use Rattle.maker_marks.specs.Tries.{body_of, tried_at, tried_privates}
 
 -- the cut in which loops are dealt out so, by number, each with these private scalars
 abbrev pub cut_of : (ℕ → Option Tried) → (ℕ → List ℕ) → Tree → Cutting
-cut_of dealt own tree = record { marks = marks_of dealt tree.items; privates = privates_of dealt own tree.items }
+cut_of dealt own tree =
+    record { marks = marks_of dealt tree.items; privates = privates_of dealt own tree.items }
 
 -- the loop with this number is dealt out by this try, and no other loop: those round it are Outer
 abbrev pub only : ℕ → Tried → List (Option Tried)

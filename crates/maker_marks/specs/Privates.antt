@@ -26,7 +26,8 @@ privates_by None own body inside = [] ∷ inside
 -- from the outside in: a loop that is dealt out has its own, and those inside it have none
 abbrev mutual
   pub privates_in : (ℕ → Option Tried) → (ℕ → List ℕ) → Statement → List (List ℕ)
-  privates_in dealt own (do_loop head body) = privates_by (dealt head.number) (own head.number) body (privates_of dealt own body)
+  privates_in dealt own (do_loop head body) =
+      privates_by (dealt head.number) (own head.number) body (privates_of dealt own body)
   privates_in dealt own (work w) = []
   privates_in dealt own (continue line) = []
 

@@ -53,4 +53,6 @@ pub record Agree (f g : Tree) : Type 0 where
 -- the same as a test that computes
 abbrev pub do_agree : Tree → Tree → Bool
 do_agree f g =
-    same_statements f.items g.items && same_list same_name f.params g.params && same_list same_kind f.variables g.variables && list_all (same_bounds f.variables g.variables) (printed_whole f.items)
+    same_statements f.items g.items && same_list same_name f.params g.params
+    && same_list same_kind f.variables g.variables
+    && list_all (same_bounds f.variables g.variables) (printed_whole f.items)

@@ -22,7 +22,8 @@ abbrev pub same_pair : ℕ × ℤ → ℕ × ℤ → Bool
 same_pair (m, c) (n, d) = m == n && int_eq c d
 
 abbrev pub same_form : Form → Form → Bool
-same_form f g = int_eq f.constant g.constant && same_list same_pair f.loops g.loops && same_list same_pair f.params g.params
+same_form f g = int_eq f.constant g.constant && same_list same_pair f.loops g.loops
+    && same_list same_pair f.params g.params
 
 abbrev pub same_access : Access → Access → Bool
 same_access a b = a.variable == b.variable && same_list same_form a.subscripts b.subscripts
@@ -172,20 +173,24 @@ abbrev pub same_guard : Option Guard → Option Guard → Bool
 same_guard None None = true
 same_guard None (Some h) = false
 same_guard (Some g) None = false
-same_guard (Some g) (Some h) = same_form g.left h.left && compare_number g.op == compare_number h.op && same_form g.right h.right
+same_guard (Some g) (Some h) = same_form g.left h.left && compare_number g.op == compare_number h.op
+    && same_form g.right h.right
 
 abbrev pub same_work : Work → Work → Bool
-same_work (assign a) (assign b) = same_access a.target b.target && same a.value b.value && same_guard a.guard b.guard && a.line == b.line
+same_work (assign a) (assign b) = same_access a.target b.target && same a.value b.value
+    && same_guard a.guard b.guard && a.line == b.line
 same_work (assign a) (print q) = false
 same_work (print p) (assign b) = false
 same_work (print p) (print q) = same_list same_printed p.items q.items && p.line == q.line
 
 abbrev pub same_head : Head → Head → Bool
-same_head h k = h.number == k.number && same_form h.m1 k.m1 && same_form h.m2 k.m2 && int_eq h.step k.step && h.line == k.line
+same_head h k = h.number == k.number && same_form h.m1 k.m1 && same_form h.m2 k.m2
+    && int_eq h.step k.step && h.line == k.line
 
 abbrev mutual
   pub same_statement : Statement → Statement → Bool
-  same_statement (do_loop head body) (do_loop other items) = same_head head other && same_statements body items
+  same_statement (do_loop head body) (do_loop other items) =
+      same_head head other && same_statements body items
   same_statement (do_loop head body) (work v) = false
   same_statement (do_loop head body) (continue line) = false
   same_statement (work w) (do_loop other items) = false
@@ -210,7 +215,8 @@ spread_number Cyclic = 1
 
 -- two declarations have one name, as many dimensions, and one distribution of one of them
 abbrev pub same_kind : Declaration → Declaration → Bool
-same_kind v w = same_bytes v.name w.name && length v.bounds == length w.bounds && v.axis == w.axis && spread_number v.spread == spread_number w.spread
+same_kind v w = same_bytes v.name w.name && length v.bounds == length w.bounds && v.axis == w.axis
+    && spread_number v.spread == spread_number w.spread
 
 -- the variable with this number, from 1, has the same bounds among both
 abbrev pub same_bounds : List Declaration → List Declaration → ℕ → Bool

@@ -12,7 +12,8 @@ use Rattle.nest_model.specs.Instances.{Instance}
 
 -- the values of subscripts where the loops have these values
 abbrev pub subscript_values : Tree → List ℤ → List Form → List ℤ
-subscript_values tree loops subscripts = map (λ f. form_value f loops (param_values tree)) subscripts
+subscript_values tree loops subscripts =
+    map (λ f. form_value f loops (param_values tree)) subscripts
 
 -- the cell of an access where the loops have these values
 abbrev pub access_cell : Tree → List ℤ → Access → ℕ
@@ -20,7 +21,8 @@ access_cell tree loops a = cell_of tree a.variable (subscript_values tree loops 
 
 -- the cells of a whole array, in storage order
 abbrev pub whole_cells : Tree → ℕ → List ℕ
-whole_cells tree variable = range_with_len (first_cell tree variable) (element_count (bounds_of tree variable))
+whole_cells tree variable =
+    range_with_len (first_cell tree variable) (element_count (bounds_of tree variable))
 
 -- the cells that an item of a PRINT loads
 abbrev pub item_loads : Tree → List ℤ → Printed → List ℕ

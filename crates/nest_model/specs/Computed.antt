@@ -19,4 +19,5 @@ variable_values params (work w) loops = []
 variable_values params (continue line) loops = []
 
 abbrev pub computed_at : List ℤ → Visit → List ℤ
-computed_at params v = map (λ f. form_value f v.loops params) (statement_forms v.what) ++ variable_values params v.what v.loops
+computed_at params v = map (λ f. form_value f v.loops params) (statement_forms v.what)
+    ++ variable_values params v.what v.loops

@@ -13,7 +13,18 @@ k = record { variable = 1; subscripts = [] }
 
 abbrev pub first_run : Tree
 first_run = record {
-  items = next (work (assign (record { target = k; value = number (pos 20); guard = None; line = 2 }))) (next (work (assign (record { target = k; value = add (mul (load k) (number (pos 2))) (number (pos 2)); guard = None; line = 3 }))) (next (work (print (record { items = text (75 ∷ []) ∷ value (load k) ∷ []; line = 4 }))) done));
+  items = next (work (assign (record {
+    target = k;
+    value = number (pos 20);
+    guard = None;
+    line = 2;
+  }))) (next (work (assign (record {
+    target = k;
+    value = add (mul (load k) (number (pos 2))) (number (pos 2));
+    guard = None;
+    line = 3;
+  }))) (next (work (print (record
+      { items = text (75 ∷ []) ∷ value (load k) ∷ []; line = 4 }))) done));
   params = [];
   variables = record { name = 75 ∷ []; bounds = []; axis = 0; spread = Block } ∷ [];
 }

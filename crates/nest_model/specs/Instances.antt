@@ -29,7 +29,8 @@ with_loop loops n v = slice_set loops (n - 1) v
 
 -- the values of a loop's DO variable, trip by trip, where the loops round it have these values
 abbrev pub head_trips : List ℤ → Head → List ℤ → List ℤ
-head_trips params head loops = trips (form_value head.m1 loops params) (form_value head.m2 loops params) head.step
+head_trips params head loops =
+    trips (form_value head.m1 loops params) (form_value head.m2 loops params) head.step
 
 -- how many pieces of work there are in the text
 abbrev mutual
@@ -51,14 +52,18 @@ is_executed (print p) loops params = true
 abbrev mutual
   pub instances_of : List ℤ → Statement → ℕ → List ℤ → List Instance
   instances_of params (do_loop head body) first loops =
-      flat_map (λ v. instances_in params body first (with_loop loops head.number v)) (head_trips params head loops)
+      flat_map (λ v. instances_in params body first (with_loop loops head.number v))
+      (head_trips params head loops)
   instances_of params (work w) first loops =
-      if is_executed w loops params then record { statement = first; what = w; loops = loops } ∷ [] else []
+      if is_executed w loops params
+      then record { statement = first; what = w; loops = loops } ∷ []
+      else []
   instances_of params (continue line) first loops = []
 
   pub instances_in : List ℤ → Statements → ℕ → List ℤ → List Instance
   instances_in params done first loops = []
-  instances_in params (next s rest) first loops = instances_of params s first loops ++ instances_in params rest (first + works_in s) loops
+  instances_in params (next s rest) first loops =
+      instances_of params s first loops ++ instances_in params rest (first + works_in s) loops
 
 -- no loop has a value yet
 abbrev pub no_values : Tree → List ℤ
@@ -76,13 +81,39 @@ abbrev blank_line : Work
 blank_line = print (record { items = []; line = 3 })
 
 abbrev guarded : Work
-guarded = assign (record { target = record { variable = 1; subscripts = [] }; value = number (pos 5); guard = Some (record { left = outer_value; op = Eq; right = fixed (pos 1) }); line = 4 })
+guarded = assign (record {
+  target = record { variable = 1; subscripts = [] };
+  value = number (pos 5);
+  guard = Some (record
+      { left = outer_value; op = Eq; right = fixed (pos 1) });
+  line = 4;
+})
 
 abbrev inner : Statement
-inner = do_loop (record { number = 2; m1 = outer_value; m2 = fixed (pos 1); step = pos 1; line = 2 }) (next (work blank_line) done)
+inner = do_loop (record {
+  number = 2;
+  m1 = outer_value;
+  m2 = fixed (pos 1);
+  step = pos 1;
+  line = 2;
+}) (next (work blank_line) done)
 
 abbrev outer : Tree
-outer = record { items = next (do_loop (record { number = 1; m1 = fixed (pos 3); m2 = fixed (pos 1); step = negsuc 1; line = 1 }) (next inner (next (work guarded) done))) done; params = []; variables = [] }
+outer = record {
+  items = next (do_loop (record
+      { number = 1; m1 = fixed (pos 3); m2 = fixed (pos 1); step = negsuc 1; line = 1 })
+      (next inner (next (work guarded) done))) done;
+  params = [];
+  variables = [];
+}
 
-pub instances-example : instances outer ≡ record { statement = 1; what = blank_line; loops = pos 1 ∷ pos 1 ∷ [] } ∷ record { statement = 2; what = guarded; loops = pos 1 ∷ pos 0 ∷ [] } ∷ []
+pub instances-example : instances outer ≡ record {
+  statement = 1;
+  what = blank_line;
+  loops = pos 1 ∷ pos 1 ∷ [];
+} ∷ record {
+  statement = 2;
+  what = guarded;
+  loops = pos 1 ∷ pos 0 ∷ [];
+} ∷ []
 instances-example = refl

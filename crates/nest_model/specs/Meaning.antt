@@ -18,15 +18,19 @@ abbrev mutual
   has_value loops params (add a b) = has_value loops params a && has_value loops params b
   has_value loops params (sub a b) = has_value loops params a && has_value loops params b
   has_value loops params (mul a b) = has_value loops params a && has_value loops params b
-  has_value loops params (div a divisor) = has_value loops params a && nat_lt 0 (unsigned_abs divisor)
+  has_value loops params (div a divisor) =
+      has_value loops params a && nat_lt 0 (unsigned_abs divisor)
   has_value loops params (least_of no_more) = false
-  has_value loops params (least_of (one_more e rest)) = has_value loops params e && have_values loops params rest
+  has_value loops params (least_of (one_more e rest)) =
+      has_value loops params e && have_values loops params rest
   has_value loops params (greatest_of no_more) = false
-  has_value loops params (greatest_of (one_more e rest)) = has_value loops params e && have_values loops params rest
+  has_value loops params (greatest_of (one_more e rest)) =
+      has_value loops params e && have_values loops params rest
 
   pub have_values : ℕ → ℕ → Expressions → Bool
   have_values loops params no_more = true
-  have_values loops params (one_more e rest) = has_value loops params e && have_values loops params rest
+  have_values loops params (one_more e rest) =
+      has_value loops params e && have_values loops params rest
 
 -- the least and the greatest of some values, 0 of none
 abbrev pub least : List ℤ → ℤ
@@ -46,16 +50,22 @@ abbrev mutual
   value_of (load a) loops params loaded = slice_index_or loaded 0 (pos 0)
   value_of (neg a) loops params loaded = wrapped (neg_ℤ (value_of a loops params loaded))
   value_of (add a b) loops params loaded =
-      wrapped (value_of a loops params loaded +ℤ value_of b loops params (drop (length (loads_in a)) loaded))
+      wrapped (value_of a loops params loaded
+      +ℤ value_of b loops params (drop (length (loads_in a)) loaded))
   value_of (sub a b) loops params loaded =
-      wrapped (value_of a loops params loaded -ℤ value_of b loops params (drop (length (loads_in a)) loaded))
+      wrapped (value_of a loops params loaded -ℤ value_of b loops params
+      (drop (length (loads_in a)) loaded))
   value_of (mul a b) loops params loaded =
-      wrapped (value_of a loops params loaded *ℤ value_of b loops params (drop (length (loads_in a)) loaded))
+      wrapped (value_of a loops params loaded
+      *ℤ value_of b loops params (drop (length (loads_in a)) loaded))
   value_of (div a divisor) loops params loaded = quotient (value_of a loops params loaded) divisor
-  value_of (least_of arguments) loops params loaded = least (values_of arguments loops params loaded)
-  value_of (greatest_of arguments) loops params loaded = greatest (values_of arguments loops params loaded)
+  value_of (least_of arguments) loops params loaded =
+      least (values_of arguments loops params loaded)
+  value_of (greatest_of arguments) loops params loaded =
+      greatest (values_of arguments loops params loaded)
 
   pub values_of : Expressions → List ℤ → List ℤ → List ℤ → List ℤ
   values_of no_more loops params loaded = []
   values_of (one_more e rest) loops params loaded =
-      value_of e loops params loaded ∷ values_of rest loops params (drop (length (loads_in e)) loaded)
+      value_of e loops params loaded ∷ values_of rest loops params
+      (drop (length (loads_in e)) loaded)

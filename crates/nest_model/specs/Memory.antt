@@ -32,7 +32,8 @@ with_store memory None v = memory
 with_store memory (Some cell) v = slice_set memory cell v
 
 abbrev pub memory_after : Tree → List ℤ → Instance → List ℤ
-memory_after tree memory i = with_store memory (store_of tree i) (assigned_value tree i (loaded_in tree memory i))
+memory_after tree memory i =
+    with_store memory (store_of tree i) (assigned_value tree i (loaded_in tree memory i))
 
 -- all cells are 0 at first
 abbrev pub first_memory : Tree → List ℤ
@@ -54,11 +55,13 @@ number_text z = 32 ∷ signed_decimal z
 abbrev pub items_text : Tree → List ℤ → List Printed → List ℤ → List ℕ
 items_text tree loops [] loaded = []
 items_text tree loops (value e ∷ rest) loaded =
-    number_text (value_of e loops (param_values tree) loaded) ++ items_text tree loops rest (drop (length (loads_in e)) loaded)
+    number_text (value_of e loops (param_values tree) loaded)
+    ++ items_text tree loops rest (drop (length (loads_in e)) loaded)
 items_text tree loops (whole variable ∷ rest) loaded =
     let count = element_count (bounds_of tree variable) in
     flat_map number_text (take count loaded) ++ items_text tree loops rest (drop count loaded)
-items_text tree loops (text characters ∷ rest) loaded = 32 ∷ (characters ++ items_text tree loops rest loaded)
+items_text tree loops (text characters ∷ rest) loaded =
+    32 ∷ (characters ++ items_text tree loops rest loaded)
 
 -- the line that a piece of work prints, with its line end; an assignment prints none
 abbrev pub printed_text : Tree → List ℤ → Work → List ℤ → List ℕ
@@ -71,7 +74,8 @@ line_of tree i loaded = printed_text tree i.loops i.what loaded
 -- the lines of these instances from a memory on
 abbrev pub output_from : Tree → List ℤ → List Instance → List ℕ
 output_from tree memory [] = []
-output_from tree memory (i ∷ rest) = line_of tree i (loaded_in tree memory i) ++ output_from tree (memory_after tree memory i) rest
+output_from tree memory (i ∷ rest) =
+    line_of tree i (loaded_in tree memory i) ++ output_from tree (memory_after tree memory i) rest
 
 -- the output of the program
 abbrev pub output_of : Tree → List ℕ

@@ -10,7 +10,8 @@ use Rattle.nest_model.specs.Accesses.{subscript_values}
 use Rattle.nest_model.specs.Instances.{Instance, instances}
 
 abbrev pub is_access_inside : Tree → List ℤ → Access → Bool
-is_access_inside tree loops a = are_inside (bounds_of tree a.variable) (subscript_values tree loops a.subscripts)
+is_access_inside tree loops a =
+    are_inside (bounds_of tree a.variable) (subscript_values tree loops a.subscripts)
 
 -- the accesses to scalars and elements of a piece of work: its loads in text order, then its store
 abbrev pub accesses_of : Work → List Access

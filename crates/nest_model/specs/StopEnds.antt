@@ -11,13 +11,17 @@ use Rattle.nest_model.specs.Visits.{Visit}
 abbrev mutual
   pub stop_ends_in : List ℤ → (ℕ → Bool) → List (ℤ × ℤ) → Statement → List (List (ℤ × ℤ))
   stop_ends_in params enters ends (do_loop head body) =
-      if enters head.number then stop_ends_of params enters (with_ends ends head.number (head_interval params ends head)) body else ends ∷ []
+      if enters head.number
+      then stop_ends_of params enters (with_ends ends head.number
+      (head_interval params ends head)) body
+      else ends ∷ []
   stop_ends_in params enters ends (work w) = ends ∷ []
   stop_ends_in params enters ends (continue line) = []
 
   pub stop_ends_of : List ℤ → (ℕ → Bool) → List (ℤ × ℤ) → Statements → List (List (ℤ × ℤ))
   stop_ends_of params enters ends done = []
-  stop_ends_of params enters ends (next s rest) = stop_ends_in params enters ends s ++ stop_ends_of params enters ends rest
+  stop_ends_of params enters ends (next s rest) =
+      stop_ends_in params enters ends s ++ stop_ends_of params enters ends rest
 
 abbrev pub stop_ends : Tree → (ℕ → Bool) → List (List (ℤ × ℤ))
 stop_ends tree enters = stop_ends_of (param_values tree) enters no_ends tree.items
@@ -31,10 +35,27 @@ abbrev printed : Statements
 printed = next (work (print (record { items = []; line = 3 }))) done
 
 abbrev inner : Statement
-inner = do_loop (record { number = 2; m1 = record { constant = pos 0; loops = (1, pos 1) ∷ []; params = [] }; m2 = fixed (negsuc 5); step = negsuc 0; line = 2 }) printed
+inner = do_loop (record {
+  number = 2;
+  m1 = record {
+    constant = pos 0;
+    loops = (1, pos 1) ∷ [];
+    params = [];
+  };
+  m2 = fixed (negsuc 5);
+  step = negsuc 0;
+  line = 2;
+}) printed
 
 abbrev outer : Statement
-outer = do_loop (record { number = 1; m1 = fixed (pos 1); m2 = fixed (pos 4); step = pos 1; line = 1 }) (next inner done)
+outer = do_loop (record {
+  number = 1;
+  m1 = fixed (pos 1);
+  m2 = fixed (pos 4);
+  step = pos 1;
+  line = 1;
+}) (next inner done)
 
-pub stop_ends-example : stop_ends_in [] (λ n. true) ((pos 0, pos 0) ∷ (pos 0, pos 0) ∷ []) outer ≡ ((pos 1, pos 4) ∷ (negsuc 5, pos 4) ∷ []) ∷ []
+pub stop_ends-example : stop_ends_in [] (λ n. true) ((pos 0, pos 0) ∷ (pos 0, pos 0) ∷ []) outer
+    ≡ ((pos 1, pos 4) ∷ (negsuc 5, pos 4) ∷ []) ∷ []
 stop_ends-example = refl

@@ -30,15 +30,19 @@ abbrev mutual
 abbrev mutual
   pub visits_of : List ℤ → (ℕ → Bool) → Statement → ℕ → ℕ → List ℤ → List Visit
   visits_of params enters (do_loop head body) place first loops =
-      if enters head.number then flat_map (λ v. visits_in params enters body place first (with_loop loops head.number v)) (head_trips params head loops)
+      if enters head.number
+      then flat_map (λ v. visits_in params enters body place first
+      (with_loop loops head.number v)) (head_trips params head loops)
       else record { place = place; first = first; what = do_loop head body; loops = loops } ∷ []
-  visits_of params enters (work w) place first loops = record { place = place; first = first; what = work w; loops = loops } ∷ []
+  visits_of params enters (work w) place first loops =
+      record { place = place; first = first; what = work w; loops = loops } ∷ []
   visits_of params enters (continue line) place first loops = []
 
   pub visits_in : List ℤ → (ℕ → Bool) → Statements → ℕ → ℕ → List ℤ → List Visit
   visits_in params enters done place first loops = []
   visits_in params enters (next s rest) place first loops =
-      visits_of params enters s place first loops ++ visits_in params enters rest (place + stops_in enters s) (first + works_in s) loops
+      visits_of params enters s place first loops
+      ++ visits_in params enters rest (place + stops_in enters s) (first + works_in s) loops
 
 -- the stops of a program's walk
 abbrev pub visits : Tree → (ℕ → Bool) → List Visit
@@ -51,7 +55,9 @@ every n = true
 -- the instances at a stop: a piece of work that is executed there
 abbrev pub executed_at : List ℤ → ℕ → Statement → List ℤ → List Instance
 executed_at params first (do_loop head body) loops = []
-executed_at params first (work w) loops = if is_executed w loops params then record { statement = first; what = w; loops = loops } ∷ [] else []
+executed_at params first (work w) loops = if is_executed w loops params
+    then record { statement = first; what = w; loops = loops } ∷ []
+    else []
 executed_at params first (continue line) loops = []
 
 abbrev pub instances_at : List ℤ → Visit → List Instance

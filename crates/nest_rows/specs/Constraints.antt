@@ -14,7 +14,8 @@ coefficient ((m, c) ∷ terms) n = (if m == n then c else pos 0) +ℤ coefficien
 
 -- the row over so many unknowns, and the system
 abbrev pub row_of : ℕ → Constraint → Row
-row_of vars c = record { coefs = map (coefficient c.terms) (range_with_len 1 vars); bound = c.bound }
+row_of vars c =
+    record { coefs = map (coefficient c.terms) (range_with_len 1 vars); bound = c.bound }
 
 abbrev pub system_of : ℕ → List Constraint → Inequalities
 system_of vars constraints = record { vars = vars; rows = map (row_of vars) constraints }
@@ -28,5 +29,8 @@ abbrev pub IsMet : List ℤ → Constraint → Type 0
 IsMet values c = dot c.terms values ≤ℤ c.bound
 
 -- 2 * x1 - x3 + x1 <= 5 over three unknowns
-pub row_of-example : row_of 3 (record { terms = (1, pos 2) ∷ (3, negsuc 0) ∷ (1, pos 1) ∷ []; bound = pos 5 }) ≡ record { coefs = pos 3 ∷ pos 0 ∷ negsuc 0 ∷ []; bound = pos 5 }
+pub row_of-example : row_of 3 (record {
+  terms = (1, pos 2) ∷ (3, negsuc 0) ∷ (1, pos 1) ∷ [];
+  bound = pos 5;
+}) ≡ record { coefs = pos 3 ∷ pos 0 ∷ negsuc 0 ∷ []; bound = pos 5 }
 row_of-example = refl

@@ -22,12 +22,16 @@ constants_have n (v ∷ values) = equal Plus n v ∷ equal Minus n v ∷ constan
 
 -- a form, with this sign, is at most a number
 abbrev pub at_most : Sign → ℕ → List Head → Form → ℤ → Constraint
-at_most sign first heads f most = record { terms = with_sign sign (terms_of first heads f); bound = most -ℤ signed sign f.constant }
+at_most sign first heads f most = record {
+  terms = with_sign sign (terms_of first heads f);
+  bound = most -ℤ signed sign f.constant;
+}
 
 -- value - m1 - step * trip, with this sign, is at most 0
 abbrev pub on_trip : Sign → ℕ → List Head → ℕ → Head → Constraint
 on_trip sign first heads place head = record {
-  terms = (place, signed sign (pos 1)) ∷ (place + 1, signed sign (neg_ℤ head.step)) ∷ with_sign (flipped sign) (terms_of first heads head.m1);
+  terms = (place, signed sign (pos 1)) ∷ (place + 1, signed sign (neg_ℤ head.step))
+      ∷ with_sign (flipped sign) (terms_of first heads head.m1);
   bound = signed sign head.m1.constant;
 }
 
@@ -38,7 +42,8 @@ sign_of step = if int_le (pos 0) step then Plus else Minus
 -- value - m2, with the sign of the step, is at most 0
 abbrev pub not_past : ℕ → List Head → ℕ → Head → Constraint
 not_past first heads place head = record {
-  terms = (place, signed (sign_of head.step) (pos 1)) ∷ with_sign (flipped (sign_of head.step)) (terms_of first heads head.m2);
+  terms = (place, signed (sign_of head.step) (pos 1))
+      ∷ with_sign (flipped (sign_of head.step)) (terms_of first heads head.m2);
   bound = signed (sign_of head.step) head.m2.constant;
 }
 
@@ -49,17 +54,20 @@ counted place = record { terms = (place + 1, negsuc 0) ∷ []; bound = pos 0 }
 -- a loop among these, whose value has this number, is at one of its trips
 abbrev pub loop_has : ℕ → List Head → ℕ → Head → List Constraint
 loop_has first heads place head =
-    on_trip Plus first heads place head ∷ on_trip Minus first heads place head ∷ counted place ∷ not_past first heads place head ∷ []
+    on_trip Plus first heads place head ∷ on_trip Minus first heads place head ∷ counted place
+    ∷ not_past first heads place head ∷ []
 
 -- each of these loops, from the one whose value has this number on
 abbrev pub loops_have : ℕ → List Head → ℕ → List Head → List Constraint
 loops_have first heads place [] = []
-loops_have first heads place (h ∷ rest) = loop_has first heads place h ++ loops_have first heads (place + 2) rest
+loops_have first heads place (h ∷ rest) =
+    loop_has first heads place h ++ loops_have first heads (place + 2) rest
 
 -- the difference of two forms, with this sign, is at most a number
 abbrev pub differ : Sign → ℕ → List Head → Form → Form → ℤ → Constraint
 differ sign first heads left right most = record {
-  terms = with_sign sign (terms_of first heads left) ++ with_sign (flipped sign) (terms_of first heads right);
+  terms = with_sign sign (terms_of first heads left)
+      ++ with_sign (flipped sign) (terms_of first heads right);
   bound = most -ℤ signed sign left.constant -ℤ signed (flipped sign) right.constant;
 }
 
@@ -67,7 +75,8 @@ differ sign first heads left right most = record {
 abbrev pub compare_so : Compare → ℕ → List Head → Form → Form → List Constraint
 compare_so Lt first heads left right = differ Plus first heads left right (negsuc 0) ∷ []
 compare_so Le first heads left right = differ Plus first heads left right (pos 0) ∷ []
-compare_so Eq first heads left right = differ Plus first heads left right (pos 0) ∷ differ Minus first heads left right (pos 0) ∷ []
+compare_so Eq first heads left right =
+    differ Plus first heads left right (pos 0) ∷ differ Minus first heads left right (pos 0) ∷ []
 compare_so Ge first heads left right = differ Minus first heads left right (pos 0) ∷ []
 compare_so Gt first heads left right = differ Minus first heads left right (negsuc 0) ∷ []
 
@@ -81,9 +90,17 @@ guard_of (print p) = None
 
 -- DO 10 I = 1, P1, 2 with the unknowns P1, I and its trip
 abbrev example_head : Head
-example_head = record { number = 1; m1 = record { constant = pos 1; loops = []; params = [] }; m2 = record { constant = pos 0; loops = []; params = (1, pos 1) ∷ [] }; step = pos 2; line = 1 }
+example_head = record {
+  number = 1;
+  m1 = record { constant = pos 1; loops = []; params = [] };
+  m2 = record { constant = pos 0; loops = []; params = (1, pos 1) ∷ [] };
+  step = pos 2;
+  line = 1;
+}
 
 pub loops_have-example : loops_have 2 (example_head ∷ []) 2 (example_head ∷ [])
-    ≡ record { terms = (2, pos 1) ∷ (3, negsuc 1) ∷ []; bound = pos 1 } ∷ record { terms = (2, negsuc 0) ∷ (3, pos 2) ∷ []; bound = negsuc 0 }
-    ∷ record { terms = (3, negsuc 0) ∷ []; bound = pos 0 } ∷ record { terms = (2, pos 1) ∷ (1, negsuc 0) ∷ []; bound = pos 0 } ∷ []
+    ≡ record { terms = (2, pos 1) ∷ (3, negsuc 1) ∷ []; bound = pos 1 }
+    ∷ record { terms = (2, negsuc 0) ∷ (3, pos 2) ∷ []; bound = negsuc 0 }
+    ∷ record { terms = (3, negsuc 0) ∷ []; bound = pos 0 }
+    ∷ record { terms = (2, pos 1) ∷ (1, negsuc 0) ∷ []; bound = pos 0 } ∷ []
 loops_have-example = refl

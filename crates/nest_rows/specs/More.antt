@@ -6,4 +6,5 @@ use Rattle.nest_rows.specs.Constraints.{row_of}
 
 -- behind the old rows stand those of these constraints
 abbrev pub HasMore : List Constraint → Inequalities → Inequalities → Type 0
-HasMore constraints old new = new ≡ record { vars = old.vars; rows = old.rows ++ map (row_of old.vars) constraints }
+HasMore constraints old new =
+    new ≡ record { vars = old.vars; rows = old.rows ++ map (row_of old.vars) constraints }

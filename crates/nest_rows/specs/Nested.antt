@@ -26,14 +26,16 @@ nested_works tree = nested_among [] tree.items
 -- a loop's value is that of its trip n, from 0, where all loops have these values by number
 pub record IsTrip (params loops : List ℤ) (head : Head) (n : ℕ) : Type 0 where
   pub value : numbered loops head.number ≡ form_value head.m1 loops params +ℤ (pos n *ℤ head.step)
-  pub within : n < trip_count (form_value head.m1 loops params) (form_value head.m2 loops params) head.step
+  pub within : n < trip_count (form_value head.m1 loops params) (form_value head.m2 loops params)
+      head.step
 
 -- each loop is at its trip
 abbrev pub AreTrips : List ℤ → List ℤ → List Head → List ℕ → Type 0
 AreTrips params loops [] [] = Unit {0}
 AreTrips params loops [] (n ∷ ns) = ⊥
 AreTrips params loops (h ∷ heads) [] = ⊥
-AreTrips params loops (h ∷ heads) (n ∷ ns) = IsTrip params loops h n × AreTrips params loops heads ns
+AreTrips params loops (h ∷ heads) (n ∷ ns) =
+    IsTrip params loops h n × AreTrips params loops heads ns
 
 -- an instance is of the piece of work with its number: that is executed at its loops' values, and each loop round it is at one of its trips
 pub record IsNestedInstance (params : List ℤ) (all : List Nested) (i : Instance) : Type 0 where

@@ -6,7 +6,8 @@ use Rattle.nest_tree.specs.Tree.{Head}
 -- the unknown for the value of a loop, where the outermost loop's has this number; each loop's trip has the number behind
 abbrev pub place_of : ℕ → List Head → ℕ → ℕ
 place_of first [] loop = 0
-place_of first (h ∷ heads) loop = if h.number == loop then first else place_of (first + 2) heads loop
+place_of first (h ∷ heads) loop =
+    if h.number == loop then first else place_of (first + 2) heads loop
 
 -- the terms of a form inside these loops, without its constant
 abbrev pub terms_of : ℕ → List Head → Form → List (ℕ × ℤ)
@@ -17,7 +18,8 @@ abbrev pub AreLaid : List ℤ → ℕ → List ℤ → List Head → List ℕ �
 AreLaid values first loops [] ns = Unit {0}
 AreLaid values first loops (h ∷ heads) [] = ⊥
 AreLaid values first loops (h ∷ heads) (n ∷ ns) =
-    (numbered values first ≡ numbered loops h.number) × (numbered values (first + 1) ≡ pos n) × AreLaid values (first + 2) loops heads ns
+    (numbered values first ≡ numbered loops h.number) × (numbered values (first + 1) ≡ pos n)
+    × AreLaid values (first + 2) loops heads ns
 
 -- the values and trips of the loops, one behind another
 abbrev pub laid : List ℤ → List Head → List ℕ → List ℤ

@@ -12,7 +12,8 @@ pub record Growing : Type 0 where
 
 -- with the rows of constraints behind its own
 abbrev pub with_constraints : List Constraint → Inequalities → Inequalities
-with_constraints constraints system = record { vars = system.vars; rows = system.rows ++ map (row_of system.vars) constraints }
+with_constraints constraints system =
+    record { vars = system.vars; rows = system.rows ++ map (row_of system.vars) constraints }
 
 abbrev pub whole_of : Growing → Inequalities
 whole_of g = with_constraints g.last g.shared

@@ -11,7 +11,8 @@ use Rattle.nest_rows.specs.Groups.{equal}
 
 -- the row over these columns alone, by their places from 0; unknowns are numbered from 1
 abbrev pub row_over : List ℕ → Constraint → Row
-row_over columns c = record { coefs = map (λ k. coefficient c.terms (k + 1)) columns; bound = c.bound }
+row_over columns c =
+    record { coefs = map (λ k. coefficient c.terms (k + 1)) columns; bound = c.bound }
 
 -- the number of an unknown among those of these columns, which are numbered from this one on; 0 where it isn't among them
 abbrev pub number_among : ℕ → List ℕ → ℕ → ℕ
@@ -28,7 +29,8 @@ named_in constraints = flat_map (λ (c : Constraint). unknowns_in c.terms) const
 
 -- each unknown that a term names has its column
 abbrev pub NamesKept : ℕ → List ℕ → Constraint → Type 0
-NamesKept vars columns c = (k : ℕ) → k < vars → is_kept columns k ≡ false → is_kept (unknowns_in c.terms) (k + 1) ≡ false
+NamesKept vars columns c =
+    (k : ℕ) → k < vars → is_kept columns k ≡ false → is_kept (unknowns_in c.terms) (k + 1) ≡ false
 
 -- one of so many constants, which are numbered from 1
 abbrev pub IsConstant : ℕ → ℕ → Type 0
@@ -42,17 +44,26 @@ pub record HasTaken (constants : ℕ) (unknowns old new : List ℕ) : Type 0 whe
 
 -- the two constraints for the value of a constant, and their rows' numbers, where constants from 1 on have these values
 abbrev pub value_of : List ℤ → ℕ → List Constraint
-value_of values n = if nat_le n (length values) then equal Plus n (slice_index_or values (n - 1) (pos 0)) ∷ equal Minus n (slice_index_or values (n - 1) (pos 0)) ∷ [] else []
+value_of values n = if nat_le n (length values)
+    then equal Plus n (slice_index_or values (n - 1) (pos 0))
+    ∷ equal Minus n (slice_index_or values (n - 1) (pos 0)) ∷ []
+    else []
 
 abbrev pub numbers_of : ℕ → ℕ → List ℕ
 numbers_of count n = if nat_le n count then (2 * n - 1) ∷ 2 * n ∷ [] else []
 
 -- behind the old rows stand those of these constraints, over the columns that are kept, with these numbers
-pub record HasKept (constraints : List Constraint) (places : List ℕ) (old new : KeptRows) : Type 0 where
+pub record HasKept (constraints : List Constraint) (places : List ℕ) (old new : KeptRows) :
+    Type 0 where
   pub columns : new.columns ≡ old.columns
   pub numbers : new.numbers.items ≡ old.numbers.items ++ places
-  pub system : new.system ≡ record { vars = old.system.vars; rows = old.system.rows ++ map (row_over old.columns.now) constraints }
+  pub system : new.system ≡ record {
+    vars = old.system.vars;
+    rows = old.system.rows ++ map (row_over old.columns.now) constraints;
+  }
 
 -- x1 + 2 * x3 <= 5 over the first and the third unknown
-pub row_over-example : row_over (0 ∷ 2 ∷ []) (record { terms = (3, pos 2) ∷ (1, pos 1) ∷ []; bound = pos 5 }) ≡ record { coefs = pos 1 ∷ pos 2 ∷ []; bound = pos 5 }
+pub row_over-example : row_over (0 ∷ 2 ∷ [])
+    (record { terms = (3, pos 2) ∷ (1, pos 1) ∷ []; bound = pos 5 })
+    ≡ record { coefs = pos 1 ∷ pos 2 ∷ []; bound = pos 5 }
 row_over-example = refl

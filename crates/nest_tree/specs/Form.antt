@@ -19,7 +19,8 @@ is_small z = nat_le (unsigned_abs z) 2147483647
 -- the numbers rise above least, no coefficient is 0, and each is small
 abbrev pub rises_above : ℕ → List (ℕ × ℤ) → Bool
 rises_above least [] = true
-rises_above least ((n, c) ∷ pairs) = nat_lt least n && nat_lt 0 (unsigned_abs c) && is_small c && rises_above n pairs
+rises_above least ((n, c) ∷ pairs) =
+    nat_lt least n && nat_lt 0 (unsigned_abs c) && is_small c && rises_above n pairs
 
 -- what the one way to write a form asks of its parts
 abbrev pub is_form : Form → Bool
@@ -50,5 +51,7 @@ abbrev pub is_given : Form → ℕ → ℕ → Bool
 is_given f loops params = reach_within loops f.loops && reach_within params f.params
 
 -- 1 + 2 * L1 - 1 * P2 at L1 = 5, P1 = 7, P2 = 3 is 8
-pub form_value-example : form_value (record { constant = pos 1; loops = (1, pos 2) ∷ []; params = (2, negsuc 0) ∷ [] }) (pos 5 ∷ []) (pos 7 ∷ pos 3 ∷ []) ≡ pos 8
+pub form_value-example : form_value (record
+    { constant = pos 1; loops = (1, pos 2) ∷ []; params = (2, negsuc 0) ∷ [] }) (pos 5 ∷ [])
+    (pos 7 ∷ pos 3 ∷ []) ≡ pos 8
 form_value-example = refl

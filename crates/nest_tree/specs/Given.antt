@@ -16,10 +16,12 @@ are_loads_given loops constants accesses = are_given loops constants (subscript_
 abbrev mutual
   pub is_all_given : ℕ → ℕ → Statement → Bool
   is_all_given loops constants (do_loop head body) =
-      is_number_of loops head.number && are_given loops constants (head.m1 ∷ head.m2 ∷ []) && are_all_given loops constants body
+      is_number_of loops head.number && are_given loops constants (head.m1 ∷ head.m2 ∷ [])
+      && are_all_given loops constants body
   is_all_given loops constants (work w) = are_given loops constants (work_forms w)
   is_all_given loops constants (continue line) = true
 
   pub are_all_given : ℕ → ℕ → Statements → Bool
   are_all_given loops constants done = true
-  are_all_given loops constants (next s rest) = is_all_given loops constants s && are_all_given loops constants rest
+  are_all_given loops constants (next s rest) =
+      is_all_given loops constants s && are_all_given loops constants rest

@@ -17,4 +17,5 @@ compares Gt a b = int_lt b a
 -- a comparison holds where the loops and the named constants have these values; where there is none, nothing is in the way
 abbrev pub holds : Option Guard → List ℤ → List ℤ → Bool
 holds None loops params = true
-holds (Some g) loops params = compares g.op (form_value g.left loops params) (form_value g.right loops params)
+holds (Some g) loops params =
+    compares g.op (form_value g.left loops params) (form_value g.right loops params)

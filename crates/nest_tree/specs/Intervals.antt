@@ -38,5 +38,7 @@ abbrev pub with_ends : List (ℤ × ℤ) → ℕ → ℤ × ℤ → List (ℤ ×
 with_ends ends n interval = slice_set ends (n - 1) interval
 
 -- 10 - 2 * L1 with L1 from 1 to 4 lies from 2 to 8
-pub form_interval-example : form_interval (record { constant = pos 10; loops = (1, negsuc 1) ∷ []; params = [] }) ((pos 1, pos 4) ∷ []) [] ≡ (pos 2, pos 8)
+pub form_interval-example : form_interval
+    (record { constant = pos 10; loops = (1, negsuc 1) ∷ []; params = [] }) ((pos 1, pos 4) ∷ []) []
+    ≡ (pos 2, pos 8)
 form_interval-example = refl

@@ -21,7 +21,8 @@ element_count (bounds ∷ rest) = extent bounds * element_count rest
 abbrev pub element_place : List (ℤ × ℤ) → List ℤ → ℕ
 element_place [] subscripts = 0
 element_place (bounds ∷ rest) [] = 0
-element_place (bounds ∷ rest) (s ∷ subscripts) = count_of (s -ℤ bounds.0) + extent bounds * element_place rest subscripts
+element_place (bounds ∷ rest) (s ∷ subscripts) =
+    count_of (s -ℤ bounds.0) + extent bounds * element_place rest subscripts
 
 -- how many cells these variables have
 abbrev pub cells_in : List Declaration → ℕ
@@ -57,8 +58,19 @@ are_inside (bounds ∷ rest) (s ∷ subscripts) = is_inside bounds s && are_insi
 
 -- the cell of an element
 abbrev pub cell_of : Tree → ℕ → List ℤ → ℕ
-cell_of tree variable subscripts = first_cell tree variable + element_place (bounds_of tree variable) subscripts
+cell_of tree variable subscripts =
+    first_cell tree variable + element_place (bounds_of tree variable) subscripts
 
 -- behind a scalar, element (1, 2) of an array (0:1, 2) has cell 1 + 1 + 2 * 1
-pub cell_of-example : cell_of (record { items = done; params = []; variables = record { name = 75 ∷ []; bounds = []; axis = 0; spread = Block } ∷ record { name = 65 ∷ []; bounds = (pos 0, pos 1) ∷ (pos 1, pos 2) ∷ []; axis = 2; spread = Block } ∷ [] }) 2 (pos 1 ∷ pos 2 ∷ []) ≡ 4
+pub cell_of-example : cell_of (record {
+  items = done;
+  params = [];
+  variables = record { name = 75 ∷ []; bounds = []; axis = 0; spread = Block }
+      ∷ record {
+        name = 65 ∷ [];
+        bounds = (pos 0, pos 1) ∷ (pos 1, pos 2) ∷ [];
+        axis = 2;
+        spread = Block;
+      } ∷ [];
+}) 2 (pos 1 ∷ pos 2 ∷ []) ≡ 4
 cell_of-example = refl

@@ -36,7 +36,8 @@ abbrev mutual
 
   pub work_of : List ℤ → List (ℤ × ℤ) → ℕ → Statements → ℕ
   work_of params ends width done = 0
-  work_of params ends width (next s rest) = work_in params ends width s + work_of params ends width rest
+  work_of params ends width (next s rest) =
+      work_in params ends width s + work_of params ends width rest
 
 -- the work estimate of a program
 abbrev pub work_estimate : Tree → ℕ
@@ -44,12 +45,14 @@ work_estimate tree = work_of (param_values tree) no_ends 1 tree.items
 
 -- the first end of an interval that is past plus or minus 2147483647, the low one first
 abbrev pub wide_end : ℤ × ℤ → Option ℤ
-wide_end (low, high) = if not (is_small low) then Some low else if not (is_small high) then Some high else None
+wide_end (low, high) =
+    if not (is_small low) then Some low else if not (is_small high) then Some high else None
 
 -- the first such end of these forms' intervals
 abbrev pub wide_forms : List ℤ → List (ℤ × ℤ) → List Form → Option ℤ
 wide_forms params ends [] = None
-wide_forms params ends (f ∷ rest) = option_or (wide_end (form_interval f ends params)) (wide_forms params ends rest)
+wide_forms params ends (f ∷ rest) =
+    option_or (wide_end (form_interval f ends params)) (wide_forms params ends rest)
 
 -- of these accesses' subscripts
 abbrev pub wide_loads : List ℤ → List (ℤ × ℤ) → List Access → Option ℤ
@@ -74,7 +77,9 @@ abbrev mutual
   wide_in params ends (do_loop head body) =
       let interval = head_interval params ends head in
       option_or (wide_at head.line (wide_forms params ends (head.m1 ∷ head.m2 ∷ [])))
-      (if is_empty interval then None else wide_of params (with_ends ends head.number interval) body)
+      (if is_empty interval
+      then None
+      else wide_of params (with_ends ends head.number interval) body)
   wide_in params ends (work w) = wide_at (line_of_work w) (wide_forms params ends (work_forms w))
   wide_in params ends (continue line) = None
 
@@ -86,10 +91,14 @@ abbrev pub too_wide : Tree → Option Limit
 too_wide tree = wide_of (param_values tree) no_ends tree.items
 
 abbrev pub too_much_work : Tree → Option Limit
-too_much_work tree = if nat_lt most_work (work_estimate tree) then Some (TooMuchWork (capped (work_estimate tree))) else None
+too_much_work tree = if nat_lt most_work (work_estimate tree)
+    then Some (TooMuchWork (capped (work_estimate tree)))
+    else None
 
 abbrev pub too_many_cells : Tree → Option Limit
-too_many_cells tree = if nat_lt most_cells (cell_count tree) then Some (TooManyCells (capped (cell_count tree))) else None
+too_many_cells tree = if nat_lt most_cells (cell_count tree)
+    then Some (TooManyCells (capped (cell_count tree)))
+    else None
 
 -- the first limit that a program passes: a form in text order, then the work, then the cells
 abbrev pub first_limit : Tree → Option Limit
@@ -101,7 +110,14 @@ IsWithinLimits tree = first_limit tree ≡ None
 
 -- DO 10 I = 1, 2000000 round DO 10 J = 1, 2000000 with an assignment has 4,000,002,000,001 of work
 abbrev round : ℕ → Statements → Statement
-round n body = do_loop (record { number = n; m1 = fixed (pos 1); m2 = fixed (pos 2000000); step = pos 1; line = n }) body
+round n body = do_loop (record {
+  number = n;
+  m1 = fixed (pos 1);
+  m2 = fixed (pos 2000000);
+  step = pos 1;
+  line = n;
+}) body
 
-pub work-example : work_of [] ((pos 0, pos 0) ∷ (pos 0, pos 0) ∷ []) 1 (next (round 1 (next (round 2 (next (continue 3) done)) done)) done) ≡ 4000002000001
+pub work-example : work_of [] ((pos 0, pos 0) ∷ (pos 0, pos 0) ∷ []) 1
+    (next (round 1 (next (round 2 (next (continue 3) done)) done)) done) ≡ 4000002000001
 work-example = refl

@@ -45,5 +45,6 @@ guard_forms (Some g) = g.left ∷ g.right ∷ []
 
 -- the forms of a piece of work: its comparison's, those of the element that is stored, then those of the loads
 abbrev pub work_forms : Work → List Form
-work_forms (assign a) = guard_forms a.guard ++ a.target.subscripts ++ subscript_forms (loads_in a.value)
+work_forms (assign a) =
+    guard_forms a.guard ++ a.target.subscripts ++ subscript_forms (loads_in a.value)
 work_forms (print p) = subscript_forms (flat_map loads_in_item p.items)

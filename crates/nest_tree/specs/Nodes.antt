@@ -39,9 +39,12 @@ printed_of (Text characters) = text characters.items
 
 abbrev mutual
   pub statement_of : Item → Statement
-  statement_of (Loop' n m1 m2 step shape items line) = do_loop (record { number = n; m1 = m1; m2 = m2; step = step; line = line }) (statements_of items)
-  statement_of (Assign target e guard line) = work (assign (record { target = target; value = expression_of e; guard = guard; line = line }))
-  statement_of (Print items line) = work (print (record { items = map printed_of items.items; line = line }))
+  statement_of (Loop' n m1 m2 step shape items line) = do_loop
+      (record { number = n; m1 = m1; m2 = m2; step = step; line = line }) (statements_of items)
+  statement_of (Assign target e guard line) = work
+      (assign (record { target = target; value = expression_of e; guard = guard; line = line }))
+  statement_of (Print items line) =
+      work (print (record { items = map printed_of items.items; line = line }))
   statement_of (Continue line) = continue line
 
   pub statements_of : {m : _} → Row_of-Item m → Statements
@@ -55,7 +58,8 @@ statements_from (s ∷ rest) = next (statement_of s) (statements_from rest)
 
 -- a loop's head, and the loop
 abbrev pub head_of : Nest → Head
-head_of nest = record { number = nest.number; m1 = nest.m1; m2 = nest.m2; step = nest.step; line = nest.line }
+head_of nest =
+    record { number = nest.number; m1 = nest.m1; m2 = nest.m2; step = nest.step; line = nest.line }
 
 abbrev pub loop_of : Nest → Statement
 loop_of nest = do_loop (head_of nest) (statements_from nest.items.items)
@@ -64,8 +68,13 @@ abbrev pub constant_of : Parameter → Constant
 constant_of p = record { name = p.name.items; value = p.value }
 
 abbrev pub declaration_of : Variable → Declaration
-declaration_of v = record { name = v.name.items; bounds = v.bounds.items; axis = v.axis; spread = v.spread }
+declaration_of v =
+    record { name = v.name.items; bounds = v.bounds.items; axis = v.axis; spread = v.spread }
 
 -- a program's parts as its tree
 abbrev pub tree_with : List Item → List Parameter → List Variable → Tree
-tree_with items params variables = record { items = statements_from items; params = map constant_of params; variables = map declaration_of variables }
+tree_with items params variables = record {
+  items = statements_from items;
+  params = map constant_of params;
+  variables = map declaration_of variables;
+}

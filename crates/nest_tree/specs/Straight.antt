@@ -18,7 +18,8 @@ are_works (next (work w) rest) = is_plain_work w && are_works rest
 are_works (next (continue line) rest) = false
 
 abbrev pub is_straight : Tree → Bool
-is_straight tree = list_all is_scalar tree.variables && length tree.params == 0 && are_works tree.items
+is_straight tree =
+    list_all is_scalar tree.variables && length tree.params == 0 && are_works tree.items
 
 abbrev pub IsStraight : Tree → Type 0
 IsStraight tree = IsTrue (is_straight tree)

@@ -34,12 +34,14 @@ rank_of scope variable = slice_index_or scope.ranks (variable - 1) 0
 -- a form names only these loops, and named constants that are there
 abbrev pub names_only : ℕ → List ℕ → Form → Bool
 names_only constants around f =
-    is_form f && list_all (λ p. list_any (λ l. l == p.0) around) f.loops && list_all (λ p. is_number_of constants p.0) f.params
+    is_form f && list_all (λ p. list_any (λ l. l == p.0) around) f.loops
+    && list_all (λ p. is_number_of constants p.0) f.params
 
 -- an access to a variable that is there, with as many subscripts as it has dimensions
 abbrev pub is_good_access : Scope → List ℕ → Access → Bool
 is_good_access scope around a =
-    is_number_of (length scope.ranks) a.variable && length a.subscripts == rank_of scope a.variable && list_all (names_only scope.constants around) a.subscripts
+    is_number_of (length scope.ranks) a.variable && length a.subscripts == rank_of scope a.variable
+    && list_all (names_only scope.constants around) a.subscripts
 
 -- each number named is of a thing that is there, each number written is a value, no divisor is 0, and no MIN or MAX is empty
 abbrev mutual
@@ -49,37 +51,48 @@ abbrev mutual
   is_good_expression scope around (param p) = is_number_of scope.constants p
   is_good_expression scope around (load a) = is_good_access scope around a
   is_good_expression scope around (neg a) = is_good_expression scope around a
-  is_good_expression scope around (add a b) = is_good_expression scope around a && is_good_expression scope around b
-  is_good_expression scope around (sub a b) = is_good_expression scope around a && is_good_expression scope around b
-  is_good_expression scope around (mul a b) = is_good_expression scope around a && is_good_expression scope around b
-  is_good_expression scope around (div a divisor) = is_good_expression scope around a && nat_lt 0 (unsigned_abs divisor) && is_value divisor
+  is_good_expression scope around (add a b) =
+      is_good_expression scope around a && is_good_expression scope around b
+  is_good_expression scope around (sub a b) =
+      is_good_expression scope around a && is_good_expression scope around b
+  is_good_expression scope around (mul a b) =
+      is_good_expression scope around a && is_good_expression scope around b
+  is_good_expression scope around (div a divisor) =
+      is_good_expression scope around a && nat_lt 0 (unsigned_abs divisor) && is_value divisor
   is_good_expression scope around (least_of no_more) = false
-  is_good_expression scope around (least_of (one_more e rest)) = is_good_expression scope around e && are_good_expressions scope around rest
+  is_good_expression scope around (least_of (one_more e rest)) =
+      is_good_expression scope around e && are_good_expressions scope around rest
   is_good_expression scope around (greatest_of no_more) = false
-  is_good_expression scope around (greatest_of (one_more e rest)) = is_good_expression scope around e && are_good_expressions scope around rest
+  is_good_expression scope around (greatest_of (one_more e rest)) =
+      is_good_expression scope around e && are_good_expressions scope around rest
 
   pub are_good_expressions : Scope → List ℕ → Expressions → Bool
   are_good_expressions scope around no_more = true
-  are_good_expressions scope around (one_more e rest) = is_good_expression scope around e && are_good_expressions scope around rest
+  are_good_expressions scope around (one_more e rest) =
+      is_good_expression scope around e && are_good_expressions scope around rest
 
 abbrev pub is_good_item : Scope → List ℕ → Printed → Bool
 is_good_item scope around (value e) = is_good_expression scope around e
-is_good_item scope around (whole variable) = is_number_of (length scope.ranks) variable && nat_lt 0 (rank_of scope variable)
+is_good_item scope around (whole variable) =
+    is_number_of (length scope.ranks) variable && nat_lt 0 (rank_of scope variable)
 is_good_item scope around (text characters) = true
 
 -- both sides of a comparison are forms of this place
 abbrev pub is_good_guard : Scope → List ℕ → Option Guard → Bool
 is_good_guard scope around None = true
-is_good_guard scope around (Some g) = names_only scope.constants around g.left && names_only scope.constants around g.right
+is_good_guard scope around (Some g) =
+    names_only scope.constants around g.left && names_only scope.constants around g.right
 
 abbrev pub is_good_work : Scope → List ℕ → Work → Bool
-is_good_work scope around (assign a) = is_good_access scope around a.target && is_good_expression scope around a.value && is_good_guard scope around a.guard
+is_good_work scope around (assign a) = is_good_access scope around a.target
+    && is_good_expression scope around a.value && is_good_guard scope around a.guard
 is_good_work scope around (print p) = list_all (is_good_item scope around) p.items
 
 -- the head of a loop inside these: no step is 0
 abbrev pub is_good_head : Scope → List ℕ → Head → Bool
 is_good_head scope around head =
-    names_only scope.constants around head.m1 && names_only scope.constants around head.m2 && nat_lt 0 (unsigned_abs head.step) && is_small head.step
+    names_only scope.constants around head.m1 && names_only scope.constants around head.m2
+    && nat_lt 0 (unsigned_abs head.step) && is_small head.step
 
 -- how many loops and how many statements there are, DO statements among the latter
 abbrev mutual
@@ -106,14 +119,16 @@ abbrev mutual
 abbrev mutual
   pub is_good_statement : Scope → List ℕ → ℕ → Statement → Bool
   is_good_statement scope around first (do_loop head body) =
-      head.number == first && nat_lt (length around) 6 && is_good_head scope around head && are_good_statements scope (head.number ∷ around) (first + 1) body
+      head.number == first && nat_lt (length around) 6 && is_good_head scope around head
+      && are_good_statements scope (head.number ∷ around) (first + 1) body
   is_good_statement scope around first (work w) = is_good_work scope around w
   is_good_statement scope around first (continue line) = true
 
   pub are_good_statements : Scope → List ℕ → ℕ → Statements → Bool
   are_good_statements scope around first done = true
   are_good_statements scope around first (next s rest) =
-      is_good_statement scope around first s && are_good_statements scope around (first + loops_in s) rest
+      is_good_statement scope around first s
+      && are_good_statements scope around (first + loops_in s) rest
 
 -- a dimension's bounds are small, and the lower is at most the upper
 abbrev pub is_good_dimension : ℤ × ℤ → Bool
@@ -123,10 +138,12 @@ is_good_dimension (low, high) = is_small low && is_small high && int_le low high
 abbrev pub is_good_placing : List (ℤ × ℤ) → ℕ → Spread → Bool
 is_good_placing [] axis Block = axis == 0
 is_good_placing [] axis Cyclic = false
-is_good_placing (b ∷ bounds) axis spread = is_number_of (length (b ∷ bounds)) axis && nat_le (length (b ∷ bounds)) 3
+is_good_placing (b ∷ bounds) axis spread =
+    is_number_of (length (b ∷ bounds)) axis && nat_le (length (b ∷ bounds)) 3
 
 abbrev pub is_good_declaration : Declaration → Bool
-is_good_declaration v = list_all is_good_dimension v.bounds && is_good_placing v.bounds v.axis v.spread
+is_good_declaration v =
+    list_all is_good_dimension v.bounds && is_good_placing v.bounds v.axis v.spread
 
 -- the value of a named constant is one
 abbrev pub is_good_constant : Constant → Bool
@@ -138,7 +155,9 @@ most_statements = 400
 
 abbrev pub is_well_formed : Tree → Bool
 is_well_formed tree =
-    list_all is_good_constant tree.params && list_all is_good_declaration tree.variables && nat_lt (statement_count tree.items) most_statements && are_good_statements (scope_of tree) [] 1 tree.items
+    list_all is_good_constant tree.params && list_all is_good_declaration tree.variables
+    && nat_lt (statement_count tree.items) most_statements
+    && are_good_statements (scope_of tree) [] 1 tree.items
 
 abbrev pub IsWellFormed : Tree → Type 0
 IsWellFormed tree = IsTrue (is_well_formed tree)

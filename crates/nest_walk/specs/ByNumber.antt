@@ -8,5 +8,7 @@ abbrev pub with_rounds : List ℤ → List Round → List ℤ
 with_rounds loops [] = loops
 with_rounds loops (r ∷ rounds) = with_loop (with_rounds loops rounds) r.number r.value
 
-pub with_rounds-example : with_rounds (pos 1 ∷ pos 2 ∷ pos 3 ∷ []) (record { number = 3; value = pos 7 } ∷ record { number = 1; value = pos 5 } ∷ []) ≡ pos 5 ∷ pos 2 ∷ pos 7 ∷ []
+pub with_rounds-example : with_rounds (pos 1 ∷ pos 2 ∷ pos 3 ∷ [])
+    (record { number = 3; value = pos 7 } ∷ record { number = 1; value = pos 5 } ∷ [])
+    ≡ pos 5 ∷ pos 2 ∷ pos 7 ∷ []
 with_rounds-example = refl

@@ -27,11 +27,13 @@ rounds_in c = rounds_of c.path
 
 -- the stops that are left
 unfoldable pub left_of : Cursor → List Visit
-left_of c = left (walk_in (tree_in c) (marks_in c)) (rounds_in c) (levels_to c.frames.all c.path.depth) (stretch_of c.rest)
+left_of c = left (walk_in (tree_in c) (marks_in c)) (rounds_in c)
+    (levels_to c.frames.all c.path.depth) (stretch_of c.rest)
 
 -- the moves that are left
 unfoldable pub moves_to_go : Cursor → ℕ
-moves_to_go c = moves_left (walk_in (tree_in c) (marks_in c)) (rounds_in c) (levels_to c.frames.all c.path.depth) (stretch_of c.rest)
+moves_to_go c = moves_left (walk_in (tree_in c) (marks_in c)) (rounds_in c)
+    (levels_to c.frames.all c.path.depth) (stretch_of c.rest)
 
 -- the values of loops by number, where these loops are round a place
 abbrev pub loops_in : Tree → List Round → List ℤ
@@ -39,15 +41,22 @@ loops_in tree rounds = by_number (loops_of tree.items) rounds
 
 -- a stop, where these loops are round it
 abbrev pub visit_at : Tree → List Round → Stop → Visit
-visit_at tree rounds s = record { place = s.place; first = s.first; what = statement_of s.item.now; loops = loops_in tree rounds }
+visit_at tree rounds s = record {
+  place = s.place;
+  first = s.first;
+  what = statement_of s.item.now;
+  loops = loops_in tree rounds;
+}
 
 -- the stops of the statement of a stop
 abbrev pub visits_at : Tree → List Bool → List Round → Stop → List Visit
-visits_at tree marks rounds s = visits_of (param_values tree) (enters_but marks) (statement_of s.item.now) s.place s.first (loops_in tree rounds)
+visits_at tree marks rounds s = visits_of (param_values tree) (enters_but marks)
+    (statement_of s.item.now) s.place s.first (loops_in tree rounds)
 
 -- a stop of a program's walk with these loops round it: it can be walked from there on
 abbrev pub is_reached : Tree → List Round → Stop → Bool
 is_reached tree rounds s =
     list_all (λ (r : Round). is_number_of (loops_of tree.items) r.number) rounds
-    && is_walkable (param_values tree) (length rounds) (statement_of s.item.now) (loops_in tree rounds)
+    && is_walkable (param_values tree) (length rounds) (statement_of s.item.now)
+    (loops_in tree rounds)
     && nat_lt (s.first + works_in (statement_of s.item.now)) (2 ^ 32)

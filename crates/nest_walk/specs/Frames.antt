@@ -13,7 +13,11 @@ abbrev pub stretch_of : Part → Stretch
 stretch_of p = record { statements = statements_from p.items.now; place = p.place; first = p.first }
 
 abbrev pub level_of : Frame → Level
-level_of f = record { body = stretch_of f.body; later = trips_left f.later; behind = statements_from f.behind.now }
+level_of f = record {
+  body = stretch_of f.body;
+  later = trips_left f.later;
+  behind = statements_from f.behind.now;
+}
 
 -- the first so many frames, the innermost first
 abbrev pub levels_to : List Frame → ℕ → List Level
@@ -22,4 +26,5 @@ levels_to frames (suc k) = map level_of (option_to_list (slice_get frames k)) ++
 
 -- a loop that is left, where its body ended with this number
 abbrev pub ended : ℕ → Level
-ended n = record { body = record { statements = done; place = n; first = n }; later = []; behind = done }
+ended n =
+    record { body = record { statements = done; place = n; first = n }; later = []; behind = done }

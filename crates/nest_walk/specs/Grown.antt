@@ -3,7 +3,8 @@ use Rattle.std.specs.Prelude.{List, ◌++◌, ◌≡◌}
 use Rattle.std.specs.List.{AllZip}
 
 -- behind the old items stands one for each of these, in order, as the relation says
-pub record GrewBy {A B : Type 0} (R : A → B → Type 0) (xs : List A) (old new : List B) : Type 0 where
+pub record GrewBy {A B : Type 0} (R : A → B → Type 0) (xs : List A) (old new : List B) :
+    Type 0 where
   pub added : List B
   pub behind : new ≡ old ++ added
   pub each : AllZip R xs added

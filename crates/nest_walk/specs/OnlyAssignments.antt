@@ -13,7 +13,8 @@ ending (Some line) = Continue line ∷ []
 
 -- statements are this assignment, without a comparison, and at most a CONTINUE behind it
 abbrev pub IsOnlyAssignment : List Item → Item → Type 0
-IsOnlyAssignment items item = (target : Access) × (e : Expr) × (line : ℕ) × (end : Option ℕ) × (item ≡ Assign target e None line) × (items ≡ item ∷ ending end)
+IsOnlyAssignment items item = (target : Access) × (e : Expr) × (line : ℕ) × (end : Option ℕ)
+    × (item ≡ Assign target e None line) × (items ≡ item ∷ ending end)
 
 -- a statement is an assignment without a comparison
 abbrev pub is_plain_work : Work → Bool

@@ -12,7 +12,10 @@ pub record Round : Type 0 where
 -- the first so many loops of numbers and values that stand by depth
 abbrev pub rounds_to : List ℕ → List ℤ → ℕ → List Round
 rounds_to numbers values zero = []
-rounds_to numbers values (suc k) = record { number = slice_index_or numbers k 0; value = slice_index_or values k (pos 0) } ∷ rounds_to numbers values k
+rounds_to numbers values (suc k) = record {
+  number = slice_index_or numbers k 0;
+  value = slice_index_or values k (pos 0);
+} ∷ rounds_to numbers values k
 
 abbrev pub is_zero : ℤ → Bool
 is_zero v = int_eq v (pos 0)
@@ -24,7 +27,8 @@ by_number loops (r ∷ rounds) = with_loop (by_number loops rounds) r.number r.v
 
 -- the values by depth from the outermost, in six places, 0 in those left over
 abbrev pub by_depth : List Round → List ℤ
-by_depth rounds = reverse (map (λ (r : Round). r.value) rounds) ++ replicate (6 - length rounds) (pos 0)
+by_depth rounds =
+    reverse (map (λ (r : Round). r.value) rounds) ++ replicate (6 - length rounds) (pos 0)
 
 -- the values by depth of loops that are all at 0
 abbrev pub origin : List ℤ

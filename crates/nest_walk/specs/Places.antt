@@ -11,11 +11,13 @@ abbrev pub place_among : List (ℤ × ℤ) → List Form → List Round → List
 place_among [] subscripts rounds params = pos 0
 place_among (bounds ∷ rest) [] rounds params = pos 0
 place_among (bounds ∷ rest) (f ∷ subscripts) rounds params =
-    (form_among f rounds params -ℤ bounds.0) +ℤ (bounds.1 -ℤ bounds.0 +ℤ pos 1) *ℤ place_among rest subscripts rounds params
+    (form_among f rounds params -ℤ bounds.0)
+    +ℤ (bounds.1 -ℤ bounds.0 +ℤ pos 1) *ℤ place_among rest subscripts rounds params
 
 -- the cell of an access as a whole number
 abbrev pub cell_among : Tree → Access → List Round → ℤ
-cell_among tree a rounds = pos (first_cell tree a.variable) +ℤ place_among (bounds_of tree a.variable) a.subscripts rounds (param_values tree)
+cell_among tree a rounds = pos (first_cell tree a.variable)
+    +ℤ place_among (bounds_of tree a.variable) a.subscripts rounds (param_values tree)
 
 -- the loops' numbers
 abbrev pub numbers_of : List Round → List ℕ

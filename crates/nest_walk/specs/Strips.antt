@@ -25,7 +25,8 @@ at_value (r ∷ rounds) v = record { number = r.number; value = v } ∷ rounds
 
 -- the stops that are left: the assignment, once for each trip
 abbrev pub strip_visits : Strip → List Visit
-strip_visits s = map (λ v. visit_at (strip_tree s) (at_value (strip_rounds s) v) s.stop) (trips_left s.trips)
+strip_visits s =
+    map (λ v. visit_at (strip_tree s) (at_value (strip_rounds s) v) s.stop) (trips_left s.trips)
 
 -- the instances that are left
 abbrev pub strip_left : Strip → List Instance

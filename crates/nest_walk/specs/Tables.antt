@@ -40,17 +40,21 @@ abbrev pub AreLoadCells : Tree → List ℕ → Loaded → LoadCells → Type 0
 AreLoadCells tree around (element a) (Element form) = IsCellForm tree a around form
 AreLoadCells tree around (element a) (Array first count) = ⊥
 AreLoadCells tree around (array variable) (Element form) = ⊥
-AreLoadCells tree around (array variable) (Array first count) = (first ≡ first_cell tree variable) × (count ≡ element_count (bounds_of tree variable)) × (first + count ≤ cell_count tree)
+AreLoadCells tree around (array variable) (Array first count) = (first ≡ first_cell tree variable)
+    × (count ≡ element_count (bounds_of tree variable)) × (first + count ≤ cell_count tree)
 
 -- the cells of these loads and stores
-pub record AreCells (tree : Tree) (around : List ℕ) (loads : List Loaded) (stores : List Access) (cells : WorkCells) : Type 0 where
+pub record AreCells (tree : Tree) (around : List ℕ) (loads : List Loaded) (stores : List Access)
+    (cells : WorkCells) : Type 0 where
   pub loaded : AllZip (AreLoadCells tree around) loads cells.loads.items
-  pub stored : AllZip (λ (a : Access) (f : CellForm). IsCellForm tree a around f) stores (option_to_list cells.store)
+  pub stored : AllZip (λ (a : Access) (f : CellForm). IsCellForm tree a around f) stores
+      (option_to_list cells.store)
 
 -- the cells of a piece of work
 abbrev pub AreWorkCells : Tree → List ℕ → Statement → WorkCells → Type 0
 AreWorkCells tree around (do_loop head body) cells = ⊥
-AreWorkCells tree around (work w) cells = AreCells tree around (loaded_in_work w) (stores_in w) cells
+AreWorkCells tree around (work w) cells =
+    AreCells tree around (loaded_in_work w) (stores_in w) cells
 AreWorkCells tree around (continue line) cells = ⊥
 
 abbrev pub ArePlacedCells : Tree → Placed → WorkCells → Type 0

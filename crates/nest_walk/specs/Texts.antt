@@ -13,7 +13,9 @@ pub record Placed : Type 0 where
 abbrev mutual
   pub placed_in : (ℕ → Bool) → List ℕ → Statement → List Placed
   placed_in enters around (do_loop head body) =
-      if enters head.number then placed_of enters (head.number ∷ around) body else record { what = do_loop head body; around = around } ∷ []
+      if enters head.number
+      then placed_of enters (head.number ∷ around) body
+      else record { what = do_loop head body; around = around } ∷ []
   placed_in enters around (work w) = record { what = work w; around = around } ∷ []
   placed_in enters around (continue line) = []
 
@@ -44,7 +46,8 @@ abbrev pub StandFrom : List Placed → ℕ → List Placed → Type 0
 StandFrom all number part = ∥ Standing all number part ∥₁
 
 -- a statement with these loops round it stands in the text: among the stops of a walk, and among the pieces of work, at these numbers
-pub record IsInText (tree : Tree) (enters : ℕ → Bool) (around : List ℕ) (s : Statement) (place first : ℕ) : Type 0 where
+pub record IsInText (tree : Tree) (enters : ℕ → Bool) (around : List ℕ) (s : Statement)
+    (place first : ℕ) : Type 0 where
   pub stops : StandFrom (placed tree enters) place (placed_in enters around s)
   pub works : StandFrom (works tree) first (placed_in every around s)
 
@@ -56,13 +59,21 @@ abbrev blank_line : ℕ → Statement
 blank_line line = work (print (record { items = []; line = line }))
 
 abbrev inner : Statement
-inner = do_loop (record { number = 2; m1 = fixed; m2 = fixed; step = pos 1; line = 3 }) (next (blank_line 4) done)
+inner = do_loop (record { number = 2; m1 = fixed; m2 = fixed; step = pos 1; line = 3 })
+    (next (blank_line 4) done)
 
 abbrev three : Tree
-three = record { items = next (blank_line 1) (next (do_loop (record { number = 1; m1 = fixed; m2 = fixed; step = pos 1; line = 2 }) (next inner done)) done); params = []; variables = [] }
+three = record {
+  items = next (blank_line 1)
+      (next (do_loop (record { number = 1; m1 = fixed; m2 = fixed; step = pos 1; line = 2 })
+      (next inner done)) done);
+  params = [];
+  variables = [];
+}
 
 pub loops_round-example : loops_round three 2 ≡ 2 ∷ 1 ∷ []
 loops_round-example = refl
 
-pub placed-example : placed three (λ n. not (n == 2)) ≡ record { what = blank_line 1; around = [] } ∷ record { what = inner; around = 1 ∷ [] } ∷ []
+pub placed-example : placed three (λ n. not (n == 2))
+    ≡ record { what = blank_line 1; around = [] } ∷ record { what = inner; around = 1 ∷ [] } ∷ []
 placed-example = refl

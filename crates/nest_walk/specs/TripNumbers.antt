@@ -11,6 +11,7 @@ fit_trips m1 m2 m3 = is_value (m2 -ℤ m1 +ℤ m3) && nat_lt (trip_count m1 m2 m
 
 -- at a stop that is a loop
 abbrev pub fits_at : List ℤ → Statement → List ℤ → Bool
-fits_at params (do_loop head body) loops = fit_trips (form_value head.m1 loops params) (form_value head.m2 loops params) head.step
+fits_at params (do_loop head body) loops =
+    fit_trips (form_value head.m1 loops params) (form_value head.m2 loops params) head.step
 fits_at params (work w) loops = true
 fits_at params (continue line) loops = true

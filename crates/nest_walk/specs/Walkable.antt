@@ -18,7 +18,8 @@ sides_of (print p) = []
 
 -- a loop's bounds are small, and so is its step, which is not 0
 abbrev pub is_small_head : List ℤ → List ℤ → Head → Bool
-is_small_head params loops head = is_small_at params loops head.m1 && is_small_at params loops head.m2 && nat_lt 0 (unsigned_abs head.step) && is_small head.step
+is_small_head params loops head = is_small_at params loops head.m1
+    && is_small_at params loops head.m2 && nat_lt 0 (unsigned_abs head.step) && is_small head.step
 
 -- the loops in these statements have greater numbers than this one
 abbrev mutual
@@ -35,11 +36,14 @@ abbrev mutual
 abbrev mutual
   pub is_walkable : List ℤ → ℕ → Statement → List ℤ → Bool
   is_walkable params depth (do_loop head body) loops =
-      is_number_of (length loops) head.number && nat_lt depth 6 && are_above head.number body && is_small_head params loops head
-      && list_all (λ v. is_small v && are_walkable params (suc depth) body (with_loop loops head.number v)) (head_trips params head loops)
+      is_number_of (length loops) head.number && nat_lt depth 6 && are_above head.number body
+      && is_small_head params loops head
+      && list_all (λ v. is_small v && are_walkable params (suc depth) body
+      (with_loop loops head.number v)) (head_trips params head loops)
   is_walkable params depth (work w) loops = list_all (is_small_at params loops) (sides_of w)
   is_walkable params depth (continue line) loops = true
 
   pub are_walkable : List ℤ → ℕ → Statements → List ℤ → Bool
   are_walkable params depth done loops = true
-  are_walkable params depth (next s rest) loops = is_walkable params depth s loops && are_walkable params depth rest loops
+  are_walkable params depth (next s rest) loops =
+      is_walkable params depth s loops && are_walkable params depth rest loops

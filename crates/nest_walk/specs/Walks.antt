@@ -20,7 +20,8 @@ pub record Walk : Type 0 where
   pub loops : ℕ
 
 abbrev pub walk_in : Tree → List Bool → Walk
-walk_in tree marks = record { params = param_values tree; enters = enters_but marks; loops = loops_of tree.items }
+walk_in tree marks =
+    record { params = param_values tree; enters = enters_but marks; loops = loops_of tree.items }
 
 -- statements one behind another, with the numbers of their first stop and of their first piece of work
 pub record Stretch : Type 0 where
@@ -43,7 +44,8 @@ last_work s = s.first + works_of s.statements
 
 -- the statements behind a loop, with their numbers
 abbrev pub stretch_behind : Walk → Level → Stretch
-stretch_behind walk l = record { statements = l.behind; place = last_place walk l.body; first = last_work l.body }
+stretch_behind walk l =
+    record { statements = l.behind; place = last_place walk l.body; first = last_work l.body }
 
 abbrev pub stretch_visits : Walk → Stretch → List ℤ → List Visit
 stretch_visits walk s loops = visits_in walk.params walk.enters s.statements s.place s.first loops
@@ -54,7 +56,8 @@ left walk [] levels rest = stretch_visits walk rest (by_number walk.loops [])
 left walk (r ∷ rounds) [] rest = []
 left walk (r ∷ rounds) (l ∷ levels) rest =
     stretch_visits walk rest (by_number walk.loops (r ∷ rounds))
-    ++ (flat_map (λ v. stretch_visits walk l.body (with_loop (by_number walk.loops rounds) r.number v)) l.later
+    ++ (flat_map (λ v. stretch_visits walk l.body
+    (with_loop (by_number walk.loops rounds) r.number v)) l.later
     ++ left walk rounds levels (stretch_behind walk l))
 
 -- the numbers are of 32 bits, and the statements can be walked
@@ -62,15 +65,19 @@ abbrev pub is_numbered : Walk → Stretch → Bool
 is_numbered walk s = nat_lt (last_place walk s) (2 ^ 32) && nat_lt (last_work s) (2 ^ 32)
 
 abbrev pub is_sound_stretch : Walk → ℕ → Stretch → List ℤ → Bool
-is_sound_stretch walk depth s loops = is_numbered walk s && are_walkable walk.params depth s.statements loops
+is_sound_stretch walk depth s loops =
+    is_numbered walk s && are_walkable walk.params depth s.statements loops
 
 -- the rest of a body ends with the body
 abbrev pub ends_with : Walk → Stretch → Stretch → Bool
-ends_with walk rest body = last_place walk rest == last_place walk body && last_work rest == last_work body
+ends_with walk rest body =
+    last_place walk rest == last_place walk body && last_work rest == last_work body
 
 -- a later trip can be walked
 abbrev pub is_sound_trip : Walk → List Round → ℕ → Statements → ℤ → Bool
-is_sound_trip walk rounds n body v = is_small v && are_walkable walk.params (suc (length rounds)) body (with_loop (by_number walk.loops rounds) n v)
+is_sound_trip walk rounds n body v = is_small v
+    && are_walkable walk.params (suc (length rounds)) body
+    (with_loop (by_number walk.loops rounds) n v)
 
 -- all that is left can be walked
 abbrev pub is_sound : Walk → List Round → List Level → Stretch → Bool

@@ -27,11 +27,13 @@ abbrev pub pair_count : Cutting → Statement → Statement → ℕ
 pair_count cut s t = shown_sum cut (λ v stores. shown_sum cut (conflict_count v stores) t) s
 
 abbrev pub within_count : Cutting → Statement → ℕ
-within_count cut s = access_sum (λ v stores. if is_among (privates_in cut s) v || is_summed cut s v then 0 else access_sum (conflict_count v stores) s) s
+within_count cut s = access_sum (λ v stores. if is_among (privates_in cut s) v || is_summed cut s v
+    then 0 else access_sum (conflict_count v stores) s) s
 
 -- on how many sides the boundary in front of a phase is certain
 abbrev pub sides_at : Slot → ℕ → List Head → ℕ
-sides_at x u outer = (if is_certain of_first x u outer then 1 else 0) + (if is_certain of_second x u outer then 1 else 0)
+sides_at x u outer = (if is_certain of_first x u outer then 1 else 0)
+    + (if is_certain of_second x u outer then 1 else 0)
 
 abbrev pub is_producer : Kind → Bool
 is_producer kind = is_some (anchor_in kind)
@@ -55,11 +57,14 @@ piece_count (waits left right producers) = length (pieces (length producers))
 
 -- the systems of a slot, and those of two phases at all levels
 abbrev pub slot_count : Plan → List StaticPhase → Slot → ℕ
-slot_count plan phases slot = pair_count plan.cut slot.first.what slot.second.what * piece_count (slot_signature plan.version plan.kinds phases slot)
+slot_count plan phases slot = pair_count plan.cut slot.first.what slot.second.what
+    * piece_count (slot_signature plan.version plan.kinds phases slot)
 
 abbrev pub count_between : Plan → List StaticPhase → ℕ → StaticPhase → ℕ → StaticPhase → ℕ
 count_between plan phases t second s first =
-    sum_by (λ level. slot_count plan phases (record { s = s; first = first; t = t; second = second; level = level })) (levels (common first.outer second.outer) s t)
+    sum_by (λ level. slot_count plan phases
+    (record { s = s; first = first; t = t; second = second; level = level }))
+    (levels (common first.outer second.outer) s t)
 
 -- those of a phase with each phase before or behind it
 abbrev pub count_before : Plan → List StaticPhase → ℕ → StaticPhase → ℕ
@@ -71,7 +76,8 @@ trips_count plan n s = if is_dealt plan.cut.marks s.what then within_count plan.
 
 -- those of the loops on the paths of the private scalars of a phase
 abbrev pub path_count : Cutting → Statement → ℕ
-path_count cut (do_loop head body) = sum_by (λ v. path_length v body) (privates_of cut.privates head.number)
+path_count cut (do_loop head body) =
+    sum_by (λ v. path_length v body) (privates_of cut.privates head.number)
 path_count cut (work w) = 0
 path_count cut (continue line) = 0
 
@@ -82,4 +88,5 @@ paths_count plan n s = path_count plan.cut s.what
 abbrev pub count_of : Tree → Plan → ℕ
 count_of tree plan =
     let phases = phases_of tree plan.cut.marks in
-    sum_from (trips_count plan) 1 phases + sum_from (count_before plan phases) 1 phases + sum_from (paths_count plan) 1 phases
+    sum_from (trips_count plan) 1 phases + sum_from (count_before plan phases) 1 phases
+    + sum_from (paths_count plan) 1 phases

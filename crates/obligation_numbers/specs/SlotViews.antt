@@ -19,4 +19,10 @@ phases_at x = phases_of (tree_of x.second.scene.program.now) x.second.scene.plan
 
 -- the two at a level
 abbrev pub slot_at : Both → ℕ → Slot
-slot_at x level = record { s = x.s; first = first_of x; t = x.second.t; second = second_of x.second; level = level }
+slot_at x level = record {
+  s = x.s;
+  first = first_of x;
+  t = x.second.t;
+  second = second_of x.second;
+  level = level;
+}

@@ -9,7 +9,8 @@ use Rattle.comm_system.specs.Shown.{is_among, privates_in}
 
 -- what the accesses of a piece of work weigh, each by its variable and whether it stores
 abbrev pub work_sum : (ℕ → Bool → ℕ) → Work → ℕ
-work_sum f w = sum_by (λ l. f (variable_of l) false) (loaded_in_work w) + sum_by (λ (a : Access). f a.variable true) (stores_in w)
+work_sum f w = sum_by (λ l. f (variable_of l) false) (loaded_in_work w)
+    + sum_by (λ (a : Access). f a.variable true) (stores_in w)
 
 -- what those of a statement weigh, and those of some
 abbrev mutual
@@ -28,7 +29,8 @@ without scalars f v stores = if is_among scalars v then 0 else f v stores
 
 -- what the accesses of a phase weigh that others see under a cut: of a private scalar one store
 abbrev pub shown_sum : Cutting → (ℕ → Bool → ℕ) → Statement → ℕ
-shown_sum cut f s = access_sum (without (privates_in cut s) f) s + sum_by (λ v. f v true) (privates_in cut s)
+shown_sum cut f s =
+    access_sum (without (privates_in cut s) f) s + sum_by (λ v. f v true) (privates_in cut s)
 
 -- what static phases weigh, each with its number, the first of which is n
 abbrev pub sum_from : (ℕ → StaticPhase → ℕ) → ℕ → List StaticPhase → ℕ

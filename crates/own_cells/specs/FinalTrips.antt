@@ -6,11 +6,13 @@ use Rattle.nest_tree.specs.Values.{wrapped}
 
 -- a value with one step more is past the last one
 abbrev pub is_past : ℤ → ℤ → ℤ → Bool
-is_past value step last = if int_lt (pos 0) step then int_lt last (value +ℤ step) else int_lt (value +ℤ step) last
+is_past value step last =
+    if int_lt (pos 0) step then int_lt last (value +ℤ step) else int_lt (value +ℤ step) last
 
 -- a loop that is in a trip, where the loops have these values, has no trip behind that one
 abbrev pub is_final : List ℤ → Head → List ℤ → Bool
-is_final params head loops = is_past (numbered loops head.number) head.step (wrapped (form_value head.m2 loops params))
+is_final params head loops =
+    is_past (numbered loops head.number) head.step (wrapped (form_value head.m2 loops params))
 
 -- DO 10 I = 1, 6, 2: only 5 is the last trip's value
 pub is_past-last : is_past (pos 5) (pos 2) (pos 6) ≡ true

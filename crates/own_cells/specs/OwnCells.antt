@@ -32,7 +32,9 @@ pub record AreOwnCells (tree : Tree) (own : OwnLoop) (o : OwnCells) : Type 0 whe
 
 -- the cell that all share of the own scalar with a place, if there is one
 abbrev pub shared_cell : OwnCells → ℕ → Option ℕ
-shared_cell o place = if nat_lt place 16 then slice_get o.private_cells.items place else slice_get o.sum_cells.items (place - 16)
+shared_cell o place = if nat_lt place 16
+    then slice_get o.private_cells.items place
+    else slice_get o.sum_cells.items (place - 16)
 
 -- the place of the sum scalar, of these, that a piece of work assigns, and a statement
 abbrev pub place_assigned : List ℕ → Work → Option ℕ

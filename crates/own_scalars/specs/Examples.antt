@@ -7,7 +7,14 @@ abbrev pub i : Expression
 i = loop_value 1
 
 abbrev pub element : Expression
-element = load (record { variable = 1; subscripts = record { constant = pos 0; loops = (1, pos 1) ∷ []; params = [] } ∷ [] })
+element = load (record {
+  variable = 1;
+  subscripts = record {
+    constant = pos 0;
+    loops = (1, pos 1) ∷ [];
+    params = [];
+  } ∷ [];
+})
 
 abbrev pub k : Expression
 k = load (record { variable = 2; subscripts = [] })

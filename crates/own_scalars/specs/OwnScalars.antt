@@ -91,7 +91,8 @@ abbrev mutual
 
   pub is_private : ℕ → Statements → Bool
   is_private v done = false
-  is_private v (next s rest) = if some_in (has_access v) s then is_stored_first v s else is_private v rest
+  is_private v (next s rest) =
+      if some_in (has_access v) s then is_stored_first v s else is_private v rest
 
 -- the length of its path: how many loops inside a loop with this body stand round its first access there, 0 where there is none
 abbrev mutual
@@ -102,7 +103,8 @@ abbrev mutual
 
   pub path_length : ℕ → Statements → ℕ
   path_length v done = 0
-  path_length v (next s rest) = if some_in (has_access v) s then path_length_in v s else path_length v rest
+  path_length v (next s rest) =
+      if some_in (has_access v) s then path_length_in v s else path_length v rest
 
 -- the greatest number of a scalar that a text stores, 0 where there is none
 abbrev pub stored_by : Work → ℕ

@@ -36,11 +36,13 @@ is_same_dist Cyclic Cyclic = true
 
 abbrev pub is_same_anchor : Anchor → Anchor → Bool
 is_same_anchor a b =
-    int_eq a.form.constant b.form.constant && pointwise is_same_pair a.form.loops b.form.loops && pointwise is_same_pair a.form.params b.form.params && is_same_dist a.dist b.dist
+    int_eq a.form.constant b.form.constant && pointwise is_same_pair a.form.loops b.form.loops
+    && pointwise is_same_pair a.form.params b.form.params && is_same_dist a.dist b.dist
 
 -- the processor that an anchor names where the loops and the named constants have these values
 abbrev pub anchor_owner : Anchor → ℕ → List ℤ → List ℤ → ℕ
-anchor_owner a workers loops params = count_of (dealt a.dist workers (form_value a.form loops params))
+anchor_owner a workers loops params =
+    count_of (dealt a.dist workers (form_value a.form loops params))
 
 abbrev pub owner_by : Option Anchor → ℕ → List ℤ → List ℤ → ℕ
 owner_by (Some a) workers loops params = anchor_owner a workers loops params
@@ -48,11 +50,13 @@ owner_by None workers loops params = 0
 
 -- the owner of an instance by the anchors of the static phases, where a phase without one belongs to processor 0
 abbrev pub owner_of : Tree → List Anchor → ℕ → Execution → ℕ
-owner_of tree anchors workers x = owner_by (slice_get anchors (x.place - 1)) workers x.instance.loops (param_values tree)
+owner_of tree anchors workers x =
+    owner_by (slice_get anchors (x.place - 1)) workers x.instance.loops (param_values tree)
 
 -- the instances of a phase that a processor owns, in sequential order
 abbrev pub own_instances : List ℤ → Anchor → ℕ → ℕ → Visit → List Instance
-own_instances params a workers p v = filter (λ (i : Instance). anchor_owner a workers i.loops params == p) (visit_instances params v)
+own_instances params a workers p v =
+    filter (λ (i : Instance). anchor_owner a workers i.loops params == p) (visit_instances params v)
 
 -- an interval lies within the blocks of so many workers: within 0 to b * P - 1; the places in turn have no end
 abbrev pub reaches : Dist → ℕ → ℤ × ℤ → Bool

@@ -22,7 +22,8 @@ pub record Execution : Type 0 where
 -- what is executed in phases of which the first has this number
 abbrev pub executions_from : List ℤ → ℕ → List Visit → List Execution
 executions_from params e [] = []
-executions_from params e (v ∷ rest) = map (λ i. record { phase = e; place = v.place; instance = i }) (visit_instances params v) ++ executions_from params (suc e) rest
+executions_from params e (v ∷ rest) = map (λ i. record { phase = e; place = v.place; instance = i })
+    (visit_instances params v) ++ executions_from params (suc e) rest
 
 -- all instances of a program, each in its phase, in sequential order
 abbrev pub executions : Tree → List Mark → List Execution
@@ -30,17 +31,32 @@ executions tree marks = executions_from (param_values tree) 1 (phases tree marks
 
 -- the number of the phase of the instance with this place, from 0
 abbrev pub phase_of : Tree → List Mark → ℕ → Option ℕ
-phase_of tree marks k = option_map (λ (x : Execution). x.phase) (slice_get (executions tree marks) k)
+phase_of tree marks k =
+    option_map (λ (x : Execution). x.phase) (slice_get (executions tree marks) k)
 
 -- DO 10 I = 1, 2 with a PRINT, an Outer loop, and behind it DO 20 J = 3, 1 with a PRINT, a Single loop that makes no trip: three phases, and an instance in each of the first two
 abbrev loop_with_print : ℕ → ℤ → ℤ → Statement
-loop_with_print n m1 m2 = do_loop (record { number = n; m1 = record { constant = m1; loops = []; params = [] }; m2 = record { constant = m2; loops = []; params = [] }; step = pos 1; line = n }) (next (work (print (record { items = []; line = n }))) done)
+loop_with_print n m1 m2 = do_loop (record {
+  number = n;
+  m1 = record { constant = m1; loops = []; params = [] };
+  m2 = record { constant = m2; loops = []; params = [] };
+  step = pos 1;
+  line = n;
+})
+    (next (work (print (record { items = []; line = n }))) done)
 
 abbrev two_loops : Tree
-two_loops = record { items = next (loop_with_print 1 (pos 1) (pos 2)) (next (loop_with_print 2 (pos 3) (pos 1)) done); params = []; variables = [] }
+two_loops = record {
+  items = next (loop_with_print 1 (pos 1) (pos 2))
+      (next (loop_with_print 2 (pos 3) (pos 1)) done);
+  params = [];
+  variables = [];
+}
 
-pub phases-example : map (λ (v : Visit). v.place) (phases two_loops (Outer ∷ Single ∷ [])) ≡ 1 ∷ 1 ∷ 2 ∷ []
+pub phases-example : map (λ (v : Visit). v.place) (phases two_loops (Outer ∷ Single ∷ []))
+    ≡ 1 ∷ 1 ∷ 2 ∷ []
 phases-example = refl
 
-pub executions-example : map (λ (x : Execution). x.phase) (executions two_loops (Outer ∷ Single ∷ [])) ≡ 1 ∷ 2 ∷ []
+pub executions-example : map (λ (x : Execution). x.phase)
+    (executions two_loops (Outer ∷ Single ∷ [])) ≡ 1 ∷ 2 ∷ []
 executions-example = refl

@@ -34,7 +34,8 @@ abbrev pub phase_last : PhaseCursor → Option Visit
 phase_last c = option_map (visit_at (phases_tree c) (phases_rounds c)) c.last
 
 -- a phase with this number, where these are the Outer loops round it: it is that stop, in the text inside these loops, with their values by depth
-pub record IsPhase (tree : Tree) (enters : ℕ → Bool) (rounds : List Round) (number : ℕ) (v : Visit) (p : Phase) : Type 0 where
+pub record IsPhase (tree : Tree) (enters : ℕ → Bool) (rounds : List Round) (number : ℕ) (v : Visit)
+    (p : Phase) : Type 0 where
   pub number_is : p.number ≡ number
   pub place_is : p.place ≡ v.place
   pub loops_are : v.loops ≡ loops_in tree rounds

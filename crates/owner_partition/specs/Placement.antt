@@ -21,7 +21,10 @@ abbrev mutual
   ends_in params enters ends (do_loop head body) place =
       let interval = head_interval params ends head in
       let inside = with_ends ends head.number interval in
-      if enters head.number then if is_empty interval then None else ends_among params enters inside body place
+      if enters head.number
+      then if is_empty interval
+      then None
+      else ends_among params enters inside body place
       else Some inside
   ends_in params enters ends (work w) place = Some ends
   ends_in params enters ends (continue line) place = None
@@ -33,7 +36,8 @@ abbrev mutual
       else ends_among params enters ends rest (place - stops_in enters s)
 
 abbrev pub phase_ends : Tree → List Mark → ℕ → Option (List (ℤ × ℤ))
-phase_ends tree marks place = ends_among (param_values tree) (enters_outer marks) no_ends tree.items place
+phase_ends tree marks place =
+    ends_among (param_values tree) (enters_outer marks) no_ends tree.items place
 
 -- one of the loops that these pairs name is empty
 abbrev pub names_empty : List (ℤ × ℤ) → List (ℕ × ℤ) → Bool
@@ -52,12 +56,14 @@ misplaced_at params workers phase a None = None
 misplaced_at params workers phase a (Some ends) = misplaced_within params workers phase a ends
 
 abbrev pub misplaced : Tree → List Mark → ℕ → ℕ → Anchor → Option Placement
-misplaced tree marks workers phase a = misplaced_at (param_values tree) workers phase a (phase_ends tree marks (phase - 1))
+misplaced tree marks workers phase a =
+    misplaced_at (param_values tree) workers phase a (phase_ends tree marks (phase - 1))
 
 -- the first of these anchors, each with the number of its static phase, that leaves its blocks
 abbrev pub unplaced : Tree → List Mark → ℕ → List (ℕ × Anchor) → Option Placement
 unplaced tree marks workers [] = None
-unplaced tree marks workers ((phase, a) ∷ rest) = option_or (misplaced tree marks workers phase a) (unplaced tree marks workers rest)
+unplaced tree marks workers ((phase, a) ∷ rest) =
+    option_or (misplaced tree marks workers phase a) (unplaced tree marks workers rest)
 
 -- an anchor names loops and named constants that the program has
 abbrev pub is_anchor_given : Tree → ℕ × Anchor → Bool
@@ -65,9 +71,13 @@ is_anchor_given tree (phase, a) = is_given a.form (loops_of tree.items) (length 
 
 -- with two workers and blocks of 4, a loop from 1 to 8 leaves its blocks, 0 to 7, at 8; an empty one passes
 abbrev own_loop : Anchor
-own_loop = record { form = record { constant = pos 0; loops = (1, pos 1) ∷ []; params = [] }; dist = Block 4 }
+own_loop = record {
+  form = record { constant = pos 0; loops = (1, pos 1) ∷ []; params = [] };
+  dist = Block 4;
+}
 
-pub misplaced-past_the_end : misplaced_within [] 2 1 own_loop ((pos 1, pos 8) ∷ []) ≡ Some (record { phase = 1; low = pos 1; high = pos 8 })
+pub misplaced-past_the_end : misplaced_within [] 2 1 own_loop ((pos 1, pos 8) ∷ [])
+    ≡ Some (record { phase = 1; low = pos 1; high = pos 8 })
 misplaced-past_the_end = refl
 
 pub misplaced-empty : misplaced_within [] 2 1 own_loop ((pos 9, pos 8) ∷ []) ≡ None

@@ -16,15 +16,18 @@ pub record Site : Type 0 where
 
 -- a loop that is entered inside these, with its value by depth
 abbrev pub entered : List ℤ → List Round → ℕ → List Round
-entered outer rounds n = record { number = n; value = slice_index_or outer (length rounds) (pos 0) } ∷ rounds
+entered outer rounds n =
+    record { number = n; value = slice_index_or outer (length rounds) (pos 0) } ∷ rounds
 
 -- the static phase with this place, from 0, in a text inside these loops, where the Outer loops have these values by depth, from the outermost
 abbrev mutual
   pub site_in : (ℕ → Bool) → List ℤ → List Round → Statement → ℕ → ℕ → Option Site
   site_in enters outer rounds (do_loop head body) place first =
-      if enters head.number then site_among enters outer (entered outer rounds head.number) body place first
+      if enters head.number
+      then site_among enters outer (entered outer rounds head.number) body place first
       else Some (record { what = do_loop head body; first = first; rounds = rounds })
-  site_in enters outer rounds (work w) place first = Some (record { what = work w; first = first; rounds = rounds })
+  site_in enters outer rounds (work w) place first =
+      Some (record { what = work w; first = first; rounds = rounds })
   site_in enters outer rounds (continue line) place first = None
 
   pub site_among : (ℕ → Bool) → List ℤ → List Round → Statements → ℕ → ℕ → Option Site
@@ -41,13 +44,20 @@ abbrev blank_line : ℕ → Statement
 blank_line n = work (print (record { items = []; line = n }))
 
 abbrev loop_with_print : ℕ → Statement
-loop_with_print n = do_loop (record { number = n; m1 = fixed; m2 = fixed; step = pos 1; line = n }) (next (blank_line n) done)
+loop_with_print n = do_loop (record { number = n; m1 = fixed; m2 = fixed; step = pos 1; line = n })
+    (next (blank_line n) done)
 
 abbrev two_loops : Statements
 two_loops = next (loop_with_print 1) (next (loop_with_print 2) done)
 
-pub site-inside : site_among (enters_outer (Outer ∷ Single ∷ [])) (negsuc 6 ∷ []) [] two_loops 0 1 ≡ Some (record { what = blank_line 1; first = 1; rounds = record { number = 1; value = negsuc 6 } ∷ [] })
+pub site-inside : site_among (enters_outer (Outer ∷ Single ∷ [])) (negsuc 6 ∷ []) [] two_loops 0 1
+    ≡ Some (record {
+      what = blank_line 1;
+      first = 1;
+      rounds = record { number = 1; value = negsuc 6 } ∷ [];
+    })
 site-inside = refl
 
-pub site-behind : site_among (enters_outer (Outer ∷ Single ∷ [])) [] [] two_loops 1 1 ≡ Some (record { what = loop_with_print 2; first = 2; rounds = [] })
+pub site-behind : site_among (enters_outer (Outer ∷ Single ∷ [])) [] [] two_loops 1 1
+    ≡ Some (record { what = loop_with_print 2; first = 2; rounds = [] })
 site-behind = refl

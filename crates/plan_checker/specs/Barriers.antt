@@ -9,4 +9,6 @@ use Rattle.comm_system.specs.declared.obligation.Obligation.{Obligation}
 
 -- the obligations of a plan's Doall loops, which stand in front of all others, and of its private scalars' paths, which stand behind
 abbrev pub doall_obligations : Tree → Plan → List Obligation
-doall_obligations tree plan = numbered_from 1 (flat_map (trips_tasks tree plan) (phases_of tree plan.cut.marks) ++ flat_map (paths_tasks tree plan) (phases_of tree plan.cut.marks))
+doall_obligations tree plan = numbered_from 1
+    (flat_map (trips_tasks tree plan) (phases_of tree plan.cut.marks)
+    ++ flat_map (paths_tasks tree plan) (phases_of tree plan.cut.marks))

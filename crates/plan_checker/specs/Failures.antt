@@ -14,13 +14,15 @@ use Rattle.plan_checker.specs.Refusals.{first_refusal}
 
 -- more certificates than obligations
 abbrev pub surplus : List Obligation → List Certificate → Option PlanRefusal
-surplus obligations certificates = if nat_lt (length obligations) (length certificates) then Some (Shape 7) else None
+surplus obligations certificates =
+    if nat_lt (length obligations) (length certificates) then Some (Shape 7) else None
 
 -- the first of these obligations whose certificate is missing or bad
 abbrev pub first_uncertified : List Obligation → List Certificate → Option PlanRefusal
 first_uncertified [] certificates = None
 first_uncertified (o ∷ rest) [] = Some (Missing o.number)
-first_uncertified (o ∷ rest) (c ∷ certificates) = option_or (option_map (Bad o.number) (first_fault o.system c)) (first_uncertified rest certificates)
+first_uncertified (o ∷ rest) (c ∷ certificates) = option_or
+    (option_map (Bad o.number) (first_fault o.system c)) (first_uncertified rest certificates)
 
 -- the first of these, where this one stands in front of the obligations
 abbrev pub failure_with : Option PlanRefusal → Tree → Plan → Option PlanRefusal

@@ -44,4 +44,5 @@ first_other values (Rows rows) others = None
 abbrev pub first_unfit : Tree → Plan → Tree → Option PlanRefusal
 first_unfit f plan g =
     if not (do_agree f g) then Some Differs
-    else option_or (first_refusal g plan) (option_map Condition (first_other (param_values f) plan.conditions (param_values g)))
+    else option_or (first_refusal g plan) (option_map Condition
+    (first_other (param_values f) plan.conditions (param_values g)))

@@ -17,10 +17,12 @@ text_of_bad certificate.NoMemory = codes "memory ran out"
 
 abbrev pub text_of_refusal : PlanRefusal → List ℕ
 text_of_refusal (Shape field) = codes "PLAN P1 " ++ decimal field
-text_of_refusal (Placement phase low high) = codes "PLAN P2 " ++ decimal phase ++ 32 ∷ signed_decimal low ++ 32 ∷ signed_decimal high
+text_of_refusal (Placement phase low high) =
+    codes "PLAN P2 " ++ decimal phase ++ 32 ∷ signed_decimal low ++ 32 ∷ signed_decimal high
 text_of_refusal (PrintPlace phase) = codes "PLAN P3 " ++ decimal phase
 text_of_refusal (Missing obligation) = codes "PLAN P4 " ++ decimal obligation
-text_of_refusal (Bad obligation reason) = codes "PLAN P5 " ++ decimal obligation ++ 32 ∷ text_of_bad reason
+text_of_refusal (Bad obligation reason) =
+    codes "PLAN P5 " ++ decimal obligation ++ 32 ∷ text_of_bad reason
 text_of_refusal (Condition row) = codes "PLAN P6 " ++ decimal row
 text_of_refusal Differs = codes "PLAN P7"
 text_of_refusal NoMemory = codes "memory ran out"

@@ -24,8 +24,10 @@ use Rattle.plan_input.specs.declared.error.InputError.TheVariants.{Limit, Line, 
 use Rattle.range_check.specs.Outside.{outside_of}
 
 -- A refusal is told as this error: want of memory as such, and each other one as its own.
-abbrev pub IsToldAs : {Refusal : Type 0} → Refusal → (Refusal → InputError) → Refusal → InputError → Type 0
-IsToldAs no_memory own refusal error = ((refusal ≡ no_memory) × (error ≡ NoMemory)) ⊎ ((refusal ≢ no_memory) × (error ≡ own refusal))
+abbrev pub IsToldAs : {Refusal : Type 0} → Refusal → (Refusal → InputError) → Refusal → InputError
+    → Type 0
+IsToldAs no_memory own refusal error =
+    ((refusal ≡ no_memory) × (error ≡ NoMemory)) ⊎ ((refusal ≢ no_memory) × (error ≡ own refusal))
 
 -- An error is this first one, unless memory ran out, which it may in place of any answer.
 abbrev pub IsFirst : Option InputError → InputError → Type 0
@@ -65,15 +67,19 @@ first_stray false bytes = None
 
 -- the first error of a source's lines: their first fault, or else the first line behind END that is no comment, where only comments may stand there
 abbrev pub error_of_lines : Bool → List ℕ → Option InputError
-error_of_lines alone bytes = option_or (option_map Line (listing.first_line_fault bytes)) (option_map (λ n. Line (AfterEnd n)) (first_stray alone bytes))
+error_of_lines alone bytes = option_or (option_map Line (listing.first_line_fault bytes))
+    (option_map (λ n. Line (AfterEnd n)) (first_stray alone bytes))
 
 -- the first error of what is listed: the first fault of a statement, or else the first setting that names no constant, or else the first limit that its program passes
 abbrev pub error_of_listed : List Entry → List (Name × ℤ) → Option InputError
-error_of_listed entries settings = option_or (option_map error_of_fault (first_fault_in entries settings)) (option_map Limit (first_limit (program_in entries settings)))
+error_of_listed entries settings = option_or
+    (option_map error_of_fault (first_fault_in entries settings))
+    (option_map Limit (first_limit (program_in entries settings)))
 
 -- the first error of a source with settings, whatever stands behind END and wherever its subscripts lie
 abbrev pub first_source_error : List ℕ → List (Name × ℤ) → Option InputError
-first_source_error bytes settings = option_or (error_of_lines false bytes) (error_of_listed (listing.entries_of bytes) settings)
+first_source_error bytes settings =
+    option_or (error_of_lines false bytes) (error_of_listed (listing.entries_of bytes) settings)
 
 -- the first error of a source with settings that is to be run: of its lines, where only comments may stand behind END of those there too; or else of what they list; or else its first subscript out of range
 abbrev pub first_error : Bool → List ℕ → List (Name × ℤ) → Option InputError
@@ -92,7 +98,8 @@ IsError alone bytes settings error = IsFirst (first_error alone bytes settings) 
 
 -- Where only comments may stand behind END, and the lines have no fault, only comments do.
 abbrev pub IsClear : Bool → List ℕ → Type 0
-IsClear alone bytes = alone ≡ true → listing.first_line_fault bytes ≡ None → first_behind_end bytes ≡ None
+IsClear alone bytes =
+    alone ≡ true → listing.first_line_fault bytes ≡ None → first_behind_end bytes ≡ None
 
 -- ---- a plan behind it
 
@@ -102,9 +109,13 @@ pub record IsTextOf (plan : Plan) (bytes : List ℕ) : Type 0 where
   pub bytes_are : bytes ≡ plan_text plan
 
 -- Bytes are refused as a plan, by the first reason against a plan: with their first line that no plan's text has, or with the first reason against the plan whose text they are.
-pub data IsRefusedBy (reason_of : Plan → Option PlanRefusal) (bytes : List ℕ) (error : InputError) : Type 0 where
-  no_text : (number : ℕ) (first : IsFirstAlien bytes number) (is : error ≡ Syntax (syntaxes.Line number)) → IsRefusedBy reason_of bytes error
-  unfit : (plan : Plan) (text : IsTextOf plan bytes) (reason : PlanRefusal) (first : reason_of plan ≡ Some reason) (is : error ≡ Misfit reason) → IsRefusedBy reason_of bytes error
+pub data IsRefusedBy (reason_of : Plan → Option PlanRefusal) (bytes : List ℕ) (error : InputError) :
+    Type 0 where
+  no_text : (number : ℕ) (first : IsFirstAlien bytes number)
+      (is : error ≡ Syntax (syntaxes.Line number)) → IsRefusedBy reason_of bytes error
+  unfit : (plan : Plan) (text : IsTextOf plan bytes) (reason : PlanRefusal)
+      (first : reason_of plan ≡ Some reason) (is : error ≡ Misfit reason)
+      → IsRefusedBy reason_of bytes error
 
 -- The same, unless memory ran out.
 abbrev pub IsPlanErrorBy : (Plan → Option PlanRefusal) → List ℕ → InputError → Type 0

@@ -24,5 +24,6 @@ HasOwners dists p = unknowns_of dists ≤ length (kept_columns p)
 -- the owners of what a subject asks are dealt so: two trips, and a loop on a path, have none
 abbrev pub IsDealtSo : Plan → List Dist → Subject → Type 0
 IsDealtSo plan dists (of_trips s pair) = dists ≡ []
-IsDealtSo plan dists (of_slot slot left right producers pair) = dists ≡ owners_dealt plan slot producers
+IsDealtSo plan dists (of_slot slot left right producers pair) =
+    dists ≡ owners_dealt plan slot producers
 IsDealtSo plan dists (of_path p) = dists ≡ []

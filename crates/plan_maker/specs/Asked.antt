@@ -36,12 +36,15 @@ trips_asked tree plan s = map (asked []) (trips_tasks tree plan s)
 
 -- how the owners of a slot are dealt, and then the producers
 abbrev pub owners_dealt : Plan → Slot → List (Anchor × Side) → List Dist
-owners_dealt plan slot producers = (anchor_at plan slot.s).dist ∷ (anchor_at plan slot.t).dist ∷ map (λ p. p.0.dist) producers
+owners_dealt plan slot producers =
+    (anchor_at plan slot.s).dist ∷ (anchor_at plan slot.t).dist ∷ map (λ p. p.0.dist) producers
 
 -- of a slot, by what it sees of the kinds
 abbrev pub slot_asked : Tree → Plan → Slot → Signature → List Asked
 slot_asked tree plan slot blocked = []
-slot_asked tree plan slot (waits left right producers) = map (asked (owners_dealt plan slot producers)) (slot_tasks tree plan slot (waits left right producers))
+slot_asked tree plan slot (waits left right producers) = map
+    (asked (owners_dealt plan slot producers))
+    (slot_tasks tree plan slot (waits left right producers))
 
 -- of two trips of all Doall phases of a plan
 abbrev pub all_trips_asked : Tree → Plan → List Asked
@@ -68,7 +71,8 @@ word_for (answers.Work level pairs) = Some Work
 
 -- elimination in this order keeps the system, by an answer with this word
 abbrev pub IsKeptBy : Inequalities → List ℕ → Word → Type 0
-IsKeptBy system order word = (answer : Answer) × IsKept system order answer × (word_for answer ≡ Some word)
+IsKeptBy system order word =
+    (answer : Answer) × IsKept system order answer × (word_for answer ≡ Some word)
 
 -- a whole solution of the system is known, and the word is Open
 abbrev pub IsWitnessed : Inequalities → Word → Type 0
@@ -90,7 +94,8 @@ pub record IsLeftKept (system : Inequalities) (dists : List Dist) (word : Word) 
 
 -- why a system is kept whose owners are dealt so: elimination keeps what is left of it, a whole solution of the system is a witness, or it wasn't decided
 abbrev pub IsKeptOf : Inequalities → List Dist → Word → Type 0
-IsKeptOf system dists word = IsLeftKept system dists word ⊎ (IsWitnessed system word ⊎ IsLeftOut word)
+IsKeptOf system dists word =
+    IsLeftKept system dists word ⊎ (IsWitnessed system word ⊎ IsLeftOut word)
 
 -- what is said of a system that is kept
 pub record IsSaid (q : Asked) (cause : Cause) : Type 0 where

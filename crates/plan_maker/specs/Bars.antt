@@ -39,7 +39,8 @@ attempts_of tree n = map (attempt n) (all_tries (body_of tree n))
 -- a try fails for this reason: a PRINT stands in the loop; or none does, and of two trips and of the paths this is the first system that is kept
 abbrev pub IsBar : Tree → Attempt → Bar → Type 0
 IsBar tree a Print = loop_prints tree a.number ≡ true
-IsBar tree a (Meeting cause) = (loop_prints tree a.number ≡ false) × IsCause (loop_asked tree a.number a.tried) cause
+IsBar tree a (Meeting cause) =
+    (loop_prints tree a.number ≡ false) × IsCause (loop_asked tree a.number a.tried) cause
 
 pub record IsLoopReason (tree : Tree) (a : Attempt) (reason : LoopReason) : Type 0 where
   pub number : reason.number ≡ a.number
@@ -50,8 +51,10 @@ pub record IsLoopReason (tree : Tree) (a : Attempt) (reason : LoopReason) : Type
 pub record AreSure (tree : Tree) (n : ℕ) (vs : List ℕ) : Type 0 where
   pub sure : ℕ → Bool
   pub are : vs ≡ take 16 (filter sure (private_scalars (body_of tree n)))
-  pub refuted : (v : ℕ) → Contains vs v → (certificates : List Certificate) × AreRefuted (path_asked tree n v) certificates
-  pub kept : (v : ℕ) → Contains (private_scalars (body_of tree n)) v → sure v ≡ false → (cause : Cause) × IsCause (path_asked tree n v) cause
+  pub refuted : (v : ℕ) → Contains vs v → (certificates : List Certificate)
+      × AreRefuted (path_asked tree n v) certificates
+  pub kept : (v : ℕ) → Contains (private_scalars (body_of tree n)) v → sure v ≡ false
+      → (cause : Cause) × IsCause (path_asked tree n v) cause
 
 -- a try isn't made once more, with those of its private scalars alone that are sure: these are all of them, or they are none and it is no Sum
 abbrev pub IsUnmade : Tree → ℕ → Tried → List ℕ → Type 0
@@ -59,17 +62,22 @@ IsUnmade tree n t vs = (vs ≡ tried_privates t (body_of tree n)) ⊎ ((vs ≡ [
 
 -- a try has no private scalars; or with those alone that are sure it isn't made once more, or fails then too
 abbrev pub IsSureBarred : Tree → ℕ → Tried → Type 0
-IsSureBarred tree n t = (tried_privates t (body_of tree n) ≡ []) ⊎ ((vs : List ℕ) × AreSure tree n vs × (IsUnmade tree n t vs ⊎ ((cause : Cause) × IsCause (alone_asked tree n t vs) cause)))
+IsSureBarred tree n t = (tried_privates t (body_of tree n) ≡ [])
+    ⊎ ((vs : List ℕ) × AreSure tree n vs × (IsUnmade tree n t vs
+    ⊎ ((cause : Cause) × IsCause (alone_asked tree n t vs) cause)))
 
 -- a loop is barred from being dealt out: each of its tries fails
 pub record IsBarred (tree : Tree) (n : ℕ) : Type 0 where
   pub reasons : List LoopReason
   pub barred : AllZip (IsLoopReason tree) (attempts_of tree n) reasons
-  pub sure : loop_prints tree n ≡ false → AllByRecursion (IsSureBarred tree n) (tries_of (body_of tree n))
+  pub sure : loop_prints tree n ≡ false → AllByRecursion (IsSureBarred tree n)
+      (tries_of (body_of tree n))
 
 -- these are the private scalars of a try; or those alone that are sure, where the try with all of them fails
 abbrev pub AreOwn : Tree → ℕ → Tried → List ℕ → Type 0
-AreOwn tree n t vs = (vs ≡ tried_privates t (body_of tree n)) ⊎ ((t ≡ Doall → vs ≡ []) × AreSure tree n vs × ((reason : LoopReason) × IsLoopReason tree (attempt n t) reason))
+AreOwn tree n t vs = (vs ≡ tried_privates t (body_of tree n))
+    ⊎ ((t ≡ Doall → vs ≡ []) × AreSure tree n vs
+    × ((reason : LoopReason) × IsLoopReason tree (attempt n t) reason))
 
 -- each of its tries before this one, with these private scalars, fails
 pub record IsFirst (tree : Tree) (n : ℕ) (t : Tried) (vs : List ℕ) : Type 0 where
@@ -107,14 +115,16 @@ open_loop n m = if is_open m then n ∷ [] else []
 
 abbrev pub open_loops : ℕ → List Mark → List ℕ
 open_loops n [] = []
-open_loops n (m ∷ marks) = if is_open m then n ∷ open_loops (suc n) marks else open_loops (suc n) marks
+open_loops n (m ∷ marks) =
+    if is_open m then n ∷ open_loops (suc n) marks else open_loops (suc n) marks
 
 -- the tries of these loops, one behind another
 abbrev pub all_attempts : Tree → List ℕ → List Attempt
 all_attempts tree numbers = flat_map (attempts_of tree) numbers
 
 -- reasons of these tries, behind others
-pub record HasLoopReasons (tree : Tree) (attempts : List Attempt) (old new : List LoopReason) : Type 0 where
+pub record HasLoopReasons (tree : Tree) (attempts : List Attempt) (old new : List LoopReason) :
+    Type 0 where
   pub more : List LoopReason
   pub behind : new ≡ old ++ more
   pub reasons : AllZip (IsLoopReason tree) attempts more

@@ -69,7 +69,8 @@ pub record Grows (old new : SlotCache) : Type 0 where
   pub behind : new.entries.items ≡ old.entries.items ++ more
 
 -- a slot was asked about the systems that it has under a signature
-pub record HasAnswered (tree : Tree) (plan : Plan) (g : Signature) (old new : SlotCache) (outcome : Option Cause) : Type 0 where
+pub record HasAnswered (tree : Tree) (plan : Plan) (g : Signature) (old new : SlotCache)
+    (outcome : Option Cause) : Type 0 where
   pub cache : IsCache tree plan new
   pub grown : Grows old new
   pub answer : IsRecalled tree plan (slot_seen new.slot) g new.entries.items outcome

@@ -12,7 +12,8 @@ or_barrier (Some k) = k
 abbrev pub kinds_taken : List (List Kind) → List ℕ → List Kind
 kinds_taken [] taken = []
 kinds_taken (ks ∷ candidates) [] = []
-kinds_taken (ks ∷ candidates) (i ∷ taken) = or_barrier (slice_get ks i) ∷ kinds_taken candidates taken
+kinds_taken (ks ∷ candidates) (i ∷ taken) =
+    or_barrier (slice_get ks i) ∷ kinds_taken candidates taken
 
 -- the place of the last candidate of each phase
 abbrev pub last_places : List (List Kind) → List ℕ

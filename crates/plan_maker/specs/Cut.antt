@@ -16,18 +16,22 @@ pub record IsTriedCut (tree : Tree) (cut : Cutting) : Type 0 where
   pub dealt : ℕ → Option Tried
   pub own : ℕ → List ℕ
   pub cut_is : cut ≡ cut_of dealt own tree
-  pub made : (n : ℕ) (t : Tried) (body : Statements) → dealt n ≡ Some t → body_among n tree.items ≡ Some body → IsMadeOf t (own n) body
+  pub made : (n : ℕ) (t : Tried) (body : Statements) → dealt n ≡ Some t
+      → body_among n tree.items ≡ Some body → IsMadeOf t (own n) body
 
 -- what is asked of two trips of the loops that a cut deals out, and of the paths of their private scalars
 abbrev pub cut_asked : Tree → Cutting → List Asked
-cut_asked tree cut = flat_map (trips_asked tree (barrier_plan cut [] 1 [])) (phases_of tree cut.marks)
+cut_asked tree cut =
+    flat_map (trips_asked tree (barrier_plan cut [] 1 [])) (phases_of tree cut.marks)
 
 abbrev pub cut_paths_asked : Tree → Cutting → List Asked
-cut_paths_asked tree cut = flat_map (paths_asked tree (barrier_plan cut [] 1 [])) (phases_of tree cut.marks)
+cut_paths_asked tree cut =
+    flat_map (paths_asked tree (barrier_plan cut [] 1 [])) (phases_of tree cut.marks)
 
 -- of the loop with this number, where it alone is dealt out so, with these private scalars: the one, then the other; and with those of the try
 abbrev pub alone_asked : Tree → ℕ → Tried → List ℕ → List Asked
-alone_asked tree n t vs = cut_asked tree (cut_alone tree n t vs) ++ cut_paths_asked tree (cut_alone tree n t vs)
+alone_asked tree n t vs =
+    cut_asked tree (cut_alone tree n t vs) ++ cut_paths_asked tree (cut_alone tree n t vs)
 
 abbrev pub loop_asked : Tree → ℕ → Tried → List Asked
 loop_asked tree n t = alone_asked tree n t (tried_privates t (body_of tree n))

@@ -17,7 +17,14 @@ use Rattle.plan_maker.specs.declared.verdict.Verdict.TheVariants.{Refuted, Kept}
 
 -- an obligation without its number
 abbrev pub task_of : Obligation → Task
-task_of o = record { system = o.system; lines = o.lines; variable = o.variable; level = o.level; piece = o.piece; range = o.range }
+task_of o = record {
+  system = o.system;
+  lines = o.lines;
+  variable = o.variable;
+  level = o.level;
+  piece = o.piece;
+  range = o.range;
+}
 
 abbrev pub asked_about : List Dist → Obligation → Asked
 asked_about dists o = asked dists (task_of o)
@@ -28,7 +35,8 @@ asked_in tree plan dists g = map (asked_about dists) (obligations_in tree plan g
 
 -- what is said of it where it is kept, by this word
 abbrev pub cause_for : Obligation → Word → Cause
-cause_for o word = record { lines = o.lines; variable = o.variable; level = o.level; piece = o.piece; word = word }
+cause_for o word =
+    record { lines = o.lines; variable = o.variable; level = o.level; piece = o.piece; word = word }
 
 -- each is refuted, or this is the first that is kept
 abbrev pub Judged : Type 0

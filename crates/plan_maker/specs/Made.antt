@@ -24,7 +24,8 @@ pub record IsMade (tree : Tree) (workers : ℕ) (plan : Plan) (reasons : Reasons
   pub accepted : IsAccepted tree plan
   pub numbers : IsHeld plan
   pub cut : IsReasonedCut tree plan.cut
-  pub loops : AllZip (IsLoopReason tree) (all_attempts tree (open_loops 1 plan.cut.marks)) reasons.loops.items
+  pub loops : AllZip (IsLoopReason tree) (all_attempts tree (open_loops 1 plan.cut.marks))
+      reasons.loops.items
   pub anchors : plan.anchors ≡ maker_anchors tree plan.cut.marks workers
   pub taken : List ℕ
   pub places : ArePlaces (candidates_in tree plan) taken

@@ -13,7 +13,8 @@ abbrev pub is_pair_held : ℕ × ℤ → Bool
 is_pair_held p = is_32 p.0
 
 abbrev pub is_anchor_held : Anchor → Bool
-is_anchor_held a = list_all is_pair_held a.form.loops && list_all is_pair_held a.form.params && is_dist_shown a.dist
+is_anchor_held a = list_all is_pair_held a.form.loops && list_all is_pair_held a.form.params
+    && is_dist_shown a.dist
 
 abbrev pub is_kind_held : Kind → Bool
 is_kind_held kind = option_map_or is_anchor_held (anchor_in kind) true

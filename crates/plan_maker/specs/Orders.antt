@@ -28,5 +28,6 @@ elimination_order unknowns dists =
     range_with_len 1 others ++ (owners_from (suc others) dists ++ rounds_from (suc others) dists)
 
 -- two other unknowns, an owner in turn with its round, one in blocks, and one in turn
-pub elimination_order-example : elimination_order 7 (Cyclic ∷ Block 3 ∷ Cyclic ∷ []) ≡ 1 ∷ 2 ∷ 3 ∷ 5 ∷ 6 ∷ 4 ∷ 7 ∷ []
+pub elimination_order-example : elimination_order 7 (Cyclic ∷ Block 3 ∷ Cyclic ∷ [])
+    ≡ 1 ∷ 2 ∷ 3 ∷ 5 ∷ 6 ∷ 4 ∷ 7 ∷ []
 elimination_order-example = refl

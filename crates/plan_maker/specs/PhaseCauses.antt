@@ -18,7 +18,8 @@ abbrev pub touches : ℕ → List Boundary → Bool
 touches u boundaries = list_any (λ (b : Boundary). b.phase == u) boundaries
 
 -- with these kinds in front of the phases, the first system that is kept, of these that are asked about first and then of these slots, is one of a slot that has the boundary in front of the phase with this number among its certain ones
-pub record IsPhaseCause (tree : Tree) (plan : Plan) (kinds : List Kind) (u : ℕ) (first : List Asked) (slots : List Slot) (cause : Cause) : Type 0 where
+pub record IsPhaseCause (tree : Tree) (plan : Plan) (kinds : List Kind) (u : ℕ) (first : List Asked)
+    (slots : List Slot) (cause : Cause) : Type 0 where
   pub before : List Slot
   pub slot : Slot
   pub behind : List Slot

@@ -52,11 +52,13 @@ kinds_with s c = kinds_taken s.candidates.items (slice_set s.taken.items c.phase
 pub record IsCurrent (p : Problem) (kinds : List Kind) (c : SlotCache) : Type 0 where
   pub certain : boundaries_seen c ≡ certain_of (slot_seen c.slot) (phases_in p)
   pub cache : IsCache (tree_of p.program.now) p.plan.now c
-  pub held : IsHeld (tree_of p.program.now) p.plan.now (slot_seen c.slot) (slot_signature p.plan.now.version kinds (phases_in p) (slot_seen c.slot)) c.entries.items
+  pub held : IsHeld (tree_of p.program.now) p.plan.now (slot_seen c.slot)
+      (slot_signature p.plan.now.version kinds (phases_in p) (slot_seen c.slot)) c.entries.items
 
 -- of each phase a candidate is taken, and under these kinds the systems of each slot are refuted
 pub record IsSearch (s : Search) : Type 0 where
-  pub candidates : s.candidates.items ≡ candidates_in (tree_of s.problem.program.now) s.problem.plan.now
+  pub candidates : s.candidates.items ≡ candidates_in (tree_of s.problem.program.now)
+      s.problem.plan.now
   pub places : ArePlaces s.candidates.items s.taken.items
   pub few : length s.taken.items < 2 ^ 20
   pub ready : All (IsCurrent s.problem (kinds_in s)) s.slots.items
@@ -74,31 +76,39 @@ AreElsewhere u kinds others = (k : ℕ) → suc k ≢ u → slice_get kinds k �
 -- of a slot: under these kinds its systems are refuted, or it has the boundary in front of the phase with this number among its certain ones, and this is its first system that is kept
 abbrev pub IsTried : Problem → ℕ → List Kind → SlotCache → Option Cause → Type 0
 IsTried p u kinds c None = IsCurrent p kinds c
-IsTried p u kinds c (Some cause) = (touches u (certain_of (slot_seen c.slot) (phases_in p)) ≡ true) × IsCause (asked_of_slot (tree_of p.program.now) p.plan.now kinds (slot_seen c.slot)) cause
+IsTried p u kinds c (Some cause) = (touches u (certain_of (slot_seen c.slot) (phases_in p)) ≡ true)
+    × IsCause (asked_of_slot (tree_of p.program.now) p.plan.now kinds (slot_seen c.slot)) cause
 
 -- a slot was tried with these kinds, which differ from others in front of the phase with this number alone
-pub record HasTried (p : Problem) (trial : Trial) (old new : SlotCache) (outcome : Option Cause) : Type 0 where
+pub record HasTried (p : Problem) (trial : Trial) (old new : SlotCache) (outcome : Option Cause) :
+    Type 0 where
   pub cache : IsCache (tree_of p.program.now) p.plan.now new
   pub grown : Grows old new
-  pub tried : (others : List Kind) → AreElsewhere trial.phase trial.kinds.now others → IsCurrent p others old → IsTried p trial.phase trial.kinds.now new outcome
+  pub tried : (others : List Kind) → AreElsewhere trial.phase trial.kinds.now others
+      → IsCurrent p others old → IsTried p trial.phase trial.kinds.now new outcome
 
 -- under these kinds the systems of each slot are refuted, or the first that is kept is one of a slot with the boundary in front of the phase with this number
 abbrev pub IsTrial : Search → ℕ → List Kind → Option Cause → Type 0
 IsTrial s u kinds None = All (IsCurrent s.problem kinds) s.slots.items
-IsTrial s u kinds (Some cause) = IsPhaseCause (tree_of s.problem.program.now) s.problem.plan.now kinds u [] (slots_in s) cause
+IsTrial s u kinds (Some cause) =
+    IsPhaseCause (tree_of s.problem.program.now) s.problem.plan.now kinds u [] (slots_in s) cause
 
 -- with another choice a system is kept: this is the first
 pub record IsTrialReason (s : Search) (c : Choice) (reason : PhaseReason) : Type 0 where
   pub phase : reason.phase ≡ suc c.phase
   pub kind : reason.kind ≡ candidate s.candidates.items c
-  pub cause : IsPhaseCause (tree_of s.problem.program.now) s.problem.plan.now (kinds_with s c) (suc c.phase) [] (slots_in s) reason.cause
+  pub cause : IsPhaseCause (tree_of s.problem.program.now) s.problem.plan.now (kinds_with s c)
+      (suc c.phase) [] (slots_in s) reason.cause
 
 -- reasons for these choices, behind the others
-pub record AreMoreReasons (s : Search) (choices : List Choice) (old new : List PhaseReason) : Type 0 where
+pub record AreMoreReasons (s : Search) (choices : List Choice) (old new : List PhaseReason) :
+    Type 0 where
   pub more : List PhaseReason
   pub behind : new ≡ old ++ more
   pub reasons : AllZip (IsTrialReason s) choices more
 
 -- certificates for the systems of the slots under the kinds that are taken, behind others
 abbrev pub HasCertificates : Search → List Certificate → List Certificate → Type 0
-HasCertificates s old new = HasMoreCertificates (slots_asked (tree_of s.problem.program.now) s.problem.plan.now (kinds_in s) (slots_in s)) old new
+HasCertificates s old new = HasMoreCertificates
+    (slots_asked (tree_of s.problem.program.now) s.problem.plan.now (kinds_in s) (slots_in s)) old
+    new

@@ -11,7 +11,8 @@ use Rattle.plan_maker.specs.Asked.{AreRefuted, Asked, slot_asked}
 
 -- what is asked of a slot, and of slots, where these kinds stand in front of the phases of a plan
 abbrev pub asked_of_slot : Tree → Plan → List Kind → Slot → List Asked
-asked_of_slot tree plan kinds slot = slot_asked tree plan slot (slot_signature plan.version kinds (phases_of tree plan.cut.marks) slot)
+asked_of_slot tree plan kinds slot = slot_asked tree plan slot
+    (slot_signature plan.version kinds (phases_of tree plan.cut.marks) slot)
 
 abbrev pub slots_asked : Tree → Plan → List Kind → List Slot → List Asked
 slots_asked tree plan kinds slots = flat_map (asked_of_slot tree plan kinds) slots

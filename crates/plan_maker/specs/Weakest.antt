@@ -16,13 +16,18 @@ use Rattle.plan_maker.specs.Trials.{slots_asked}
 
 -- what is asked of a plan with other kinds
 abbrev pub asked_under : Tree → Plan → List Kind → List Asked
-asked_under tree plan kinds = all_trips_asked tree plan ++ slots_asked tree plan kinds (slots_of (phases_of tree plan.cut.marks)) ++ all_paths_asked tree plan
+asked_under tree plan kinds = all_trips_asked tree plan
+    ++ slots_asked tree plan kinds (slots_of (phases_of tree plan.cut.marks))
+    ++ all_paths_asked tree plan
 
 -- the plan with a weaker candidate in front of a phase has a system that is kept: this is its first, and one of a slot that has the boundary in front of that phase among its certain ones
-pub record IsPhaseReason (tree : Tree) (plan : Plan) (taken : List ℕ) (c : Choice) (reason : PhaseReason) : Type 0 where
+pub record IsPhaseReason (tree : Tree) (plan : Plan) (taken : List ℕ) (c : Choice)
+    (reason : PhaseReason) : Type 0 where
   pub phase : reason.phase ≡ suc c.phase
   pub kind : reason.kind ≡ candidate (candidates_in tree plan) c
-  pub cause : IsPhaseCause tree plan (kinds_taken (candidates_in tree plan) (slice_set taken c.phase c.place)) (suc c.phase) (all_trips_asked tree plan) (slots_of (phases_of tree plan.cut.marks)) reason.cause
+  pub cause : IsPhaseCause tree plan (kinds_taken (candidates_in tree plan)
+      (slice_set taken c.phase c.place)) (suc c.phase) (all_trips_asked tree plan)
+      (slots_of (phases_of tree plan.cut.marks)) reason.cause
 
 pub record IsWeakest (tree : Tree) (plan : Plan) (w : Weakest) : Type 0 where
   pub taken : List ℕ

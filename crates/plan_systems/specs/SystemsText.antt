@@ -33,7 +33,8 @@ range_text range = (codes ":" ++ signed_decimal range.0) ++ (codes ":" ++ signed
 
 -- how many unknowns there are, and how many rows, and the end of the line
 abbrev pub counts_text : Inequalities → List ℕ
-counts_text system = (codes " " ++ decimal system.vars) ++ (codes " " ++ decimal (length system.rows)) ++ 10 ∷ []
+counts_text system =
+    (codes " " ++ decimal system.vars) ++ (codes " " ++ decimal (length system.rows)) ++ 10 ∷ []
 
 abbrev pub sizes_text : Obligation → List ℕ
 sizes_text o = range_text o.range ++ counts_text o.system

@@ -84,14 +84,19 @@ abbrev pub as_form : Form → Option Form
 as_form f = if is_form f then Some f else None
 
 abbrev pub form_of : List (List ℕ) → Option Form
-form_of words = as_form (record { constant = narrow_of (word_at 0 words); loops = pairs_of 76 words; params = pairs_of 80 words })
+form_of words = as_form (record {
+  constant = narrow_of (word_at 0 words);
+  loops = pairs_of 76 words;
+  params = pairs_of 80 words;
+})
 
 -- the distribution is the last word, or the last two
 abbrev pub dist_of : List ℕ → Dist
 dist_of word = if bytes_eq word (codes "CYCLIC") then Cyclic else Block (number_32 word)
 
 abbrev pub anchor_of : List (List ℕ) → Option Anchor
-anchor_of words = option_map (λ f. record { form = f; dist = dist_of (last_word words) }) (form_of words)
+anchor_of words =
+    option_map (λ f. record { form = f; dist = dist_of (last_word words) }) (form_of words)
 
 abbrev pub mark_of : List ℕ → Mark
 mark_of word =
@@ -110,7 +115,9 @@ loop_of words = (mark_of (word_at 1 words), map private_of (drop 3 words))
 
 -- a kind
 abbrev pub kind_of : List (List ℕ) → Option Kind
-kind_of words = if bytes_eq (word_at 0 words) (codes "PRODUCER") then option_map Producer (anchor_of (drop 1 words)) else Some (plain_kind (word_at 0 words))
+kind_of words = if bytes_eq (word_at 0 words) (codes "PRODUCER")
+    then option_map Producer (anchor_of (drop 1 words))
+    else Some (plain_kind (word_at 0 words))
 
 -- a phase: the kind before the word AT, the anchor behind it
 abbrev pub both : {X Y : Type 0} → Option X → Option Y → Option (X × Y)
@@ -135,7 +142,8 @@ abbrev pub step_of : List (List ℕ) → Step
 step_of words = record { divisor = signed_of (word_at 0 words); terms = map term_of (drop 1 words) }
 
 -- the least number of 128 bits
-pub signed_of-least : signed_of (codes "-170141183460469231731687303715884105728") ≡ negsuc 170141183460469231731687303715884105727
+pub signed_of-least : signed_of (codes "-170141183460469231731687303715884105728")
+    ≡ negsuc 170141183460469231731687303715884105727
 signed_of-least = refl
 
 pub pair_of-example : pair_of 76 (codes "-7*L12") ≡ Some (12, negsuc 6)
@@ -164,11 +172,21 @@ abbrev pub step_said : List ℕ → Option Step
 step_said line = Some (step_of (words_of line))
 
 abbrev pub version_said : List ℕ → Option Version
-version_said line = if bytes_eq line (version_line One) then Some One else if bytes_eq line (version_line Two) then Some Two else if bytes_eq line (version_line Three) then Some Three else if bytes_eq line (version_line Four) then Some Four else Some Five
+version_said line = if bytes_eq line (version_line One)
+    then Some One
+    else if bytes_eq line (version_line Two)
+    then Some Two
+    else if bytes_eq line (version_line Three)
+    then Some Three
+    else if bytes_eq line (version_line Four)
+    then Some Four
+    else Some Five
 
 -- the line in front of conditions: none for the program's values, or the number of rows
 abbrev pub where_said : List ℕ → Option (Option ℕ)
-where_said line = if bytes_eq line (codes "WHERE VALUES") then Some None else Some (Some (number_32 (word_at 1 (words_of line))))
+where_said line = if bytes_eq line (codes "WHERE VALUES")
+    then Some None
+    else Some (Some (number_32 (word_at 1 (words_of line))))
 
 abbrev pub where_line : Option ℕ → List ℕ
 where_line None = codes "WHERE VALUES"

@@ -17,5 +17,14 @@ abbrev pub seconds : {X Y : Type 0} → List (X × Y) → List Y
 seconds [] = []
 seconds (p ∷ ps) = p.1 ∷ seconds ps
 
-abbrev pub plan_of : Version → ℕ → Conditions → List (Mark × List ℕ) → List (Kind × Anchor) → List Certificate → Plan
-plan_of v w c ls ps cs = record { version = v; conditions = c; workers = w; cut = record { marks = firsts ls; privates = seconds ls }; anchors = seconds ps; kinds = firsts ps; certificates = cs }
+abbrev pub plan_of : Version → ℕ → Conditions → List (Mark × List ℕ) → List (Kind × Anchor)
+    → List Certificate → Plan
+plan_of v w c ls ps cs = record {
+  version = v;
+  conditions = c;
+  workers = w;
+  cut = record { marks = firsts ls; privates = seconds ls };
+  anchors = seconds ps;
+  kinds = firsts ps;
+  certificates = cs;
+}

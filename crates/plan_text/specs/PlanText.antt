@@ -60,7 +60,8 @@ cert_lines k c = headed (cert_line k) (alone (λ n. step_line)) c.steps
 
 -- the version, the workers and the conditions
 abbrev pub head_lines : Plan → List (List ℕ)
-head_lines plan = version_line plan.version ∷ (count_line (codes "WORKERS") plan.workers ∷ condition_lines plan.version plan.conditions)
+head_lines plan = version_line plan.version
+    ∷ (count_line (codes "WORKERS") plan.workers ∷ condition_lines plan.version plan.conditions)
 
 -- each loop's mark and its private scalars
 abbrev pub cut_loops : Cutting → List (Mark × List ℕ)
@@ -84,7 +85,8 @@ plan_text plan = text_of (plan_lines plan)
 
 -- a form in its one way of writing, whose numbers their types hold; an anchor, and that of a kind, if it has one
 abbrev pub is_form_shown : Form → Bool
-is_form_shown f = is_form f && list_all (λ p. is_32 p.0) f.loops && list_all (λ p. is_32 p.0) f.params
+is_form_shown f =
+    is_form f && list_all (λ p. is_32 p.0) f.loops && list_all (λ p. is_32 p.0) f.params
 
 abbrev pub is_anchor_shown : Anchor → Bool
 is_anchor_shown a = is_form_shown a.form && is_dist_shown a.dist
@@ -97,7 +99,8 @@ is_phase_shown p = is_kind_shown p.0 && is_anchor_shown p.1
 
 -- a row of conditions names a named constant at least, by rising numbers, with numbers as a form has them
 abbrev pub is_row_shown : ConditionRow → Bool
-is_row_shown row = nat_lt 0 (length row.coefs) && rises_above 0 row.coefs && list_all (λ p. is_32 p.0) row.coefs && is_small row.bound
+is_row_shown row = nat_lt 0 (length row.coefs) && rises_above 0 row.coefs
+    && list_all (λ p. is_32 p.0) row.coefs && is_small row.bound
 
 abbrev pub are_where_shown : Conditions → Bool
 are_where_shown Values = true
@@ -120,7 +123,8 @@ are_certificates_shown cs = is_64 (length cs) && list_all is_certificate_shown c
 
 -- a version shows a loop: it has Sum loops, and private scalars where a loop's trips are dealt out
 abbrev pub has_loop : Version → Mark × List ℕ → Bool
-has_loop version l = (not (is_sum_mark l.0) || has_sums version) && (length l.1 == 0 || (has_privates version && is_doall l.0))
+has_loop version l = (not (is_sum_mark l.0) || has_sums version)
+    && (length l.1 == 0 || (has_privates version && is_doall l.0))
 
 abbrev pub is_loop_shown : Version → Mark × List ℕ → Bool
 is_loop_shown version l = has_loop version l && list_all is_32 l.1

@@ -7,7 +7,8 @@ use Rattle.plan_text.specs.PlanText.{HasText, IsPlanText, plan_lines, text_of}
 
 -- a plan's text begins with these lines
 abbrev pub Opens : List (List ℕ) → Type 0
-Opens front = (plan : Plan) × HasText plan × ((more : List (List ℕ)) × (plan_lines plan ≡ front ++ more))
+Opens front =
+    (plan : Plan) × HasText plan × ((more : List (List ℕ)) × (plan_lines plan ≡ front ++ more))
 
 -- bytes that are no plan's text, whose first lines up to this one open one, and with this line, if it is whole, no longer
 pub record IsFirstAlien (bytes : List ℕ) (number : ℕ) : Type 0 where
@@ -16,7 +17,8 @@ pub record IsFirstAlien (bytes : List ℕ) (number : ℕ) : Type 0 where
   pub cut : bytes ≡ text_of front ++ behind
   pub count : length front + 1 ≡ number
   pub opens : Opens front
-  pub alien : (line : List ℕ) (rest : List ℕ) → behind ≡ line ++ 10 ∷ rest → Opens (front ++ line ∷ []) → ⊥
+  pub alien : (line : List ℕ) (rest : List ℕ) → behind ≡ line ++ 10 ∷ rest
+      → Opens (front ++ line ∷ []) → ⊥
   pub no_text : IsPlanText bytes → ⊥
 
 -- what a refusal says

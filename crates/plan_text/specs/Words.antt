@@ -84,7 +84,8 @@ abbrev pub phase_line : ℕ → Kind × Anchor → List ℕ
 phase_line k p = line_of (decimal k ∷ kind_words p.0 ++ codes "AT" ∷ anchor_words p.1)
 
 abbrev pub row_line : ℕ → ConditionRow → List ℕ
-row_line k row = line_of (decimal k ∷ map (pair_word (codes "P")) row.coefs ++ codes "<=" ∷ signed_decimal row.bound ∷ [])
+row_line k row = line_of (decimal k ∷ map (pair_word (codes "P")) row.coefs
+    ++ codes "<=" ∷ signed_decimal row.bound ∷ [])
 
 abbrev pub cert_line : ℕ → ℕ → List ℕ
 cert_line k steps = line_of (decimal k ∷ codes "STEPS" ∷ decimal steps ∷ [])

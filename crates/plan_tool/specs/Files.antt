@@ -9,7 +9,8 @@ use Rattle.asked_plan.specs.Plans.{IsPlanned}
 use Rattle.sync_plan.specs.declared.plan.Plan.{Plan}
 
 -- The file ends with the text of the plan that is asked for, for the program of the source that the bytes begin with.
-pub record IsEmitted (workers : ℕ) (choice : PlanChoice) (bytes : List ℕ) (settings : List (Name × ℤ)) (file : List ℕ) : Type 0 where
+pub record IsEmitted (workers : ℕ) (choice : PlanChoice) (bytes : List ℕ)
+    (settings : List (Name × ℤ)) (file : List ℕ) : Type 0 where
   pub tree : Tree
   pub plan : Plan
   pub planned : IsPlanned workers choice bytes settings tree plan

@@ -34,7 +34,8 @@ behind_by Barrier = None
 
 -- the plan that a number of processors and the name of a plan stand for: with a number the one that is named, or else the one that is made; without one the one behind the source
 abbrev pub subject_by : Option Text → Option Text → Option Subject
-subject_by (Some number) plan = option_and_then (λ n. option_map (λ choice. For n choice) (choice_of plan)) (workers_of number)
+subject_by (Some number) plan =
+    option_and_then (λ n. option_map (λ choice. For n choice) (choice_of plan)) (workers_of number)
 subject_by None (Some plan) = option_and_then behind_by (choice_of (Some plan))
 subject_by None None = Some Behind
 
@@ -47,14 +48,17 @@ is_set None = false
 is_set (Some t) = bytes_eq t (codes "true")
 
 abbrev pub explain_of : List Row → Option Wanted
-explain_of rows = option_map (λ subject. explain subject (is_set (first_of (codes "json") rows)) (settings_of rows)) (subject_of rows)
+explain_of rows = option_map (λ subject.
+    explain subject (is_set (first_of (codes "json") rows)) (settings_of rows)) (subject_of rows)
 
 abbrev pub systems_of : List Row → Option Wanted
 systems_of rows = option_map (λ subject. systems subject (settings_of rows)) (subject_of rows)
 
 -- a number of processors and a plan, which is the one that is made where none is named
 abbrev pub emit_of : List Row → Option Wanted
-emit_of rows = option_and_then (λ n. option_map (λ choice. emit n choice (settings_of rows)) (choice_of (first_of (codes "plan") rows))) (option_and_then workers_of (first_of (codes "workers") rows))
+emit_of rows = option_and_then (λ n. option_map (λ choice. emit n choice (settings_of rows))
+    (choice_of (first_of (codes "plan") rows)))
+    (option_and_then workers_of (first_of (codes "workers") rows))
 
 abbrev pub wanted_in : Text → List Row → Option Wanted
 wanted_in name rows = if bytes_eq name (codes "explain") then explain_of rows

@@ -28,7 +28,8 @@ StopsOver names count numbers NoMemory = Unit {0}
 abbrev pub IsAnswer : Inequalities → Presolution → Certificate → Checked → Type 0
 IsAnswer whole p certificate Good = first_fault whole certificate ≡ None
 IsAnswer whole p certificate (Bad fault) = first_fault whole certificate ≡ Some fault
-IsAnswer whole p certificate (NotKept r) = IsLeftOut p.count p.numbers r × (steps_name r certificate.steps ≡ true)
+IsAnswer whole p certificate (NotKept r) =
+    IsLeftOut p.count p.numbers r × (steps_name r certificate.steps ≡ true)
 
 -- the first fault of a certificate of what is left, told of the whole system
 abbrev pub IsAnswerTo : Presolution → Certificate → Checked → Type 0

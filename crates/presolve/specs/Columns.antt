@@ -27,7 +27,8 @@ with_columns keep system = record { vars = length keep; rows = map (kept_row kee
 
 -- each column that isn't kept is 0
 abbrev pub IsZeroOutside : ℕ → List ℕ → Row → Type 0
-IsZeroOutside vars keep row = (k : ℕ) → k < vars → is_kept keep k ≡ false → slice_index_or row.coefs k (pos 0) ≡ pos 0
+IsZeroOutside vars keep row =
+    (k : ℕ) → k < vars → is_kept keep k ≡ false → slice_index_or row.coefs k (pos 0) ≡ pos 0
 
 pub record KeepsAll (keep : List ℕ) (system : Inequalities) : Type 0 where
   pub rising : AreRising 0 system.vars keep
@@ -52,4 +53,6 @@ abbrev pub spread : (ℕ → ℤ) → ℕ → ℕ → List ℕ → List ℤ → 
 spread fill from zero keep xs = []
 spread fill from (suc n) [] xs = fill from ∷ spread fill (from + 1) n [] xs
 spread fill from (suc n) (k ∷ keep) [] = fill from ∷ spread fill (from + 1) n [] []
-spread fill from (suc n) (k ∷ keep) (x ∷ xs) = if k == from then x ∷ spread fill (from + 1) n keep xs else fill from ∷ spread fill (from + 1) n (k ∷ keep) (x ∷ xs)
+spread fill from (suc n) (k ∷ keep) (x ∷ xs) = if k == from
+    then x ∷ spread fill (from + 1) n keep xs
+    else fill from ∷ spread fill (from + 1) n (k ∷ keep) (x ∷ xs)

@@ -27,8 +27,20 @@ with_row row system = record { vars = system.vars; rows = system.rows ++ row ∷
 
 -- one row more at the end, which is kept
 abbrev pub with_last : Row → Presolution → Presolution
-with_last row p = record { vars = p.vars; count = p.count + 1; columns = p.columns; numbers = p.numbers ++ (p.count + 1) ∷ []; system = with_row row p.system }
+with_last row p = record {
+  vars = p.vars;
+  count = p.count + 1;
+  columns = p.columns;
+  numbers = p.numbers ++ (p.count + 1) ∷ [];
+  system = with_row row p.system;
+}
 
 -- without the rows behind so many that are kept
 abbrev pub first_kept : ℕ → Presolution → Presolution
-first_kept kept p = record { vars = p.vars; count = p.count - (length p.numbers - kept); columns = p.columns; numbers = take kept p.numbers; system = record { vars = p.system.vars; rows = take kept p.system.rows } }
+first_kept kept p = record {
+  vars = p.vars;
+  count = p.count - (length p.numbers - kept);
+  columns = p.columns;
+  numbers = take kept p.numbers;
+  system = record { vars = p.system.vars; rows = take kept p.system.rows };
+}

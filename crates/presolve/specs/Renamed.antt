@@ -19,7 +19,10 @@ renamed to certificate = record { steps = map (renamed_step to) certificate.step
 
 -- whole_number, where it fits 64 bits; else the greatest of these
 abbrev pub number_in_64 : ℕ → List ℕ → ℕ → ℕ
-number_in_64 count numbers number = if number == 0 then 0 else slice_index_or numbers (number - 1) (min (number - 1 - length numbers + (count + 1)) (2 ^ 64 - 1))
+number_in_64 count numbers number = if number == 0
+    then 0
+    else slice_index_or numbers (number - 1)
+    (min (number - 1 - length numbers + (count + 1)) (2 ^ 64 - 1))
 
 -- a fault of what is left, told of the whole system, whose rows' numbers are told as 64 bits hold them
 abbrev pub fault_in_64 : Presolution → CertRefusal → CertRefusal

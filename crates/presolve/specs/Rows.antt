@@ -30,10 +30,12 @@ abbrev pub renumbered_terms : ℕ → List ℕ → List (ℕ × ℤ) → List (�
 renumbered_terms count numbers terms = map (λ t. (whole_number count numbers t.0, t.1)) terms
 
 abbrev pub renumbered_step : ℕ → List ℕ → Step → Step
-renumbered_step count numbers step = record { divisor = step.divisor; terms = renumbered_terms count numbers step.terms }
+renumbered_step count numbers step =
+    record { divisor = step.divisor; terms = renumbered_terms count numbers step.terms }
 
 abbrev pub renumbered : ℕ → List ℕ → Certificate → Certificate
-renumbered count numbers certificate = record { steps = map (renumbered_step count numbers) certificate.steps }
+renumbered count numbers certificate =
+    record { steps = map (renumbered_step count numbers) certificate.steps }
 
 -- a fault, told for the whole system
 abbrev pub renumbered_fault : ℕ → List ℕ → CertRefusal → CertRefusal
@@ -51,17 +53,27 @@ place_in (n ∷ numbers) r = if n == r then 0 else suc (place_in numbers r)
 
 -- the number among the rows that are kept
 abbrev pub kept_number : ℕ → List ℕ → ℕ → ℕ
-kept_number count numbers r = if nat_le r count then (if nat_le 1 r then suc (place_in numbers r) else 0) else r - count + length numbers
+kept_number count numbers r = if nat_le r count
+    then (if nat_le 1 r then suc (place_in numbers r) else 0)
+    else r - count + length numbers
 
 -- each given row that a certificate names is kept
 abbrev pub NamesKept : ℕ → List ℕ → List (ℕ × ℤ) → Type 0
 NamesKept count numbers [] = Unit {0}
-NamesKept count numbers (t ∷ terms) = (1 ≤ t.0 → t.0 ≤ count → is_kept numbers t.0 ≡ true) × NamesKept count numbers terms
+NamesKept count numbers (t ∷ terms) =
+    (1 ≤ t.0 → t.0 ≤ count → is_kept numbers t.0 ≡ true) × NamesKept count numbers terms
 
 abbrev pub StepsNameKept : ℕ → List ℕ → List Step → Type 0
 StepsNameKept count numbers [] = Unit {0}
-StepsNameKept count numbers (step ∷ steps) = NamesKept count numbers step.terms × StepsNameKept count numbers steps
+StepsNameKept count numbers (step ∷ steps) =
+    NamesKept count numbers step.terms × StepsNameKept count numbers steps
 
 -- the certificate in the numbers of the rows that are kept
 abbrev pub kept_certificate : ℕ → List ℕ → Certificate → Certificate
-kept_certificate count numbers certificate = record { steps = map (λ step. record { divisor = step.divisor; terms = map (λ t. (kept_number count numbers t.0, t.1)) step.terms }) certificate.steps }
+kept_certificate count numbers certificate = record {
+  steps = map
+      (λ step. record {
+        divisor = step.divisor;
+        terms = map (λ t. (kept_number count numbers t.0, t.1)) step.terms;
+      }) certificate.steps;
+}

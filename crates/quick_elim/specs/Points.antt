@@ -8,7 +8,8 @@ use Rattle.farkas_cert.specs.Inequalities.{Inequalities, IsWholeSolution, left_s
 abbrev pub SumsFit : List ℤ → List ℤ → Type 0
 SumsFit [] xs = ⊤
 SumsFit (a ∷ coefs) [] = ⊤
-SumsFit (a ∷ coefs) (x ∷ xs) = SumsFit coefs xs × (FitsSigned w128 (a *ℤ x) × FitsSigned w128 (left_side (a ∷ coefs) (x ∷ xs)))
+SumsFit (a ∷ coefs) (x ∷ xs) =
+    SumsFit coefs xs × (FitsSigned w128 (a *ℤ x) × FitsSigned w128 (left_side (a ∷ coefs) (x ∷ xs)))
 
 -- a whole solution, in whose rows no product and no sum passes 128 bits
 pub record IsSeenSolution (system : Inequalities) (x : List ℤ) : Type 0 where

@@ -9,7 +9,8 @@ use Rattle.range_check.specs.Sites.{Site, sites_of}
 
 -- each dimension has its certificates
 abbrev pub IsCertified : Tree → Site → Type 0
-IsCertified tree site = (dimension : ℕ) → 1 ≤ dimension → dimension ≤ length (bounds_of tree site.access.variable) → HasProof tree site dimension
+IsCertified tree site = (dimension : ℕ) → 1 ≤ dimension
+    → dimension ≤ length (bounds_of tree site.access.variable) → HasProof tree site dimension
 
 abbrev pub AreCertified : Tree → Nested → Type 0
 AreCertified tree n = AllByRecursion (IsCertified tree) (sites_of n)

@@ -30,27 +30,33 @@ first_loop tree = constant_count tree + 1
 -- what holds of each instance of the access: the constants' values, the loops round it, and its comparison
 abbrev pub standing : Tree → Site → List Constraint
 standing tree site =
-    constants_have 1 (param_values tree) ++ loops_have (first_loop tree) site.around (first_loop tree) site.around ++ guard_has (first_loop tree) site.around site.guard
+    constants_have 1 (param_values tree) ++ loops_have (first_loop tree) site.around
+    (first_loop tree) site.around ++ guard_has (first_loop tree) site.around site.guard
 
 abbrev pub no_form : Form
 no_form = record { constant = pos 0; loops = []; params = [] }
 
 -- the bounds of a dimension, from 1
 abbrev pub bounds_in : Tree → Site → ℕ → ℤ × ℤ
-bounds_in tree site dimension = slice_index_or (bounds_of tree site.access.variable) (dimension - 1) (pos 0, pos 0)
+bounds_in tree site dimension =
+    slice_index_or (bounds_of tree site.access.variable) (dimension - 1) (pos 0, pos 0)
 
 -- the subscript in the dimension with this place, from 0, is at most a number, with a sign
 abbrev pub side_system : Tree → Site → Sign → ℕ → ℤ → Inequalities
 side_system tree site sign place most =
-    system_of (unknowns tree site) (standing tree site ++ at_most sign (first_loop tree) site.around (slice_index_or site.access.subscripts place no_form) most ∷ [])
+    system_of (unknowns tree site) (standing tree site
+    ++ at_most sign (first_loop tree) site.around
+    (slice_index_or site.access.subscripts place no_form) most ∷ [])
 
 -- an instance's subscript is below the lower bound
 abbrev pub below : Tree → Site → ℕ → Inequalities
-below tree site dimension = side_system tree site Plus (dimension - 1) ((bounds_in tree site dimension).0 -ℤ pos 1)
+below tree site dimension =
+    side_system tree site Plus (dimension - 1) ((bounds_in tree site dimension).0 -ℤ pos 1)
 
 -- an instance's subscript is above the upper bound
 abbrev pub above : Tree → Site → ℕ → Inequalities
-above tree site dimension = side_system tree site Minus (dimension - 1) (neg_ℤ (bounds_in tree site dimension).1 -ℤ pos 1)
+above tree site dimension =
+    side_system tree site Minus (dimension - 1) (neg_ℤ (bounds_in tree site dimension).1 -ℤ pos 1)
 
 -- so many numbers in equal steps
 abbrev pub in_steps : ℕ → ℕ → ℕ → List ℕ
@@ -58,7 +64,8 @@ in_steps first step count = map (λ k. first + step * k) (range_with_len 0 count
 
 -- the order of elimination: the constants, then all values, then all trips
 abbrev pub elimination_order : ℕ → ℕ → List ℕ
-elimination_order constants loops = in_steps 1 1 constants ++ (in_steps (constants + 1) 2 loops ++ in_steps (constants + 2) 2 loops)
+elimination_order constants loops =
+    in_steps 1 1 constants ++ (in_steps (constants + 1) 2 loops ++ in_steps (constants + 2) 2 loops)
 
 -- over so many unknowns, of which the last ones are the value and the trip of each of so many loops
 abbrev pub order_over : ℕ → ℕ → List ℕ
@@ -66,7 +73,8 @@ order_over vars loops = elimination_order (vars - 2 * min loops (vars / 2)) (min
 
 -- two certificates show that no instance's subscript leaves its bounds
 abbrev pub AreProof : Tree → Site → ℕ → Certificate × Certificate → Type 0
-AreProof tree site dimension (low, high) = IsGood (below tree site dimension) low × IsGood (above tree site dimension) high
+AreProof tree site dimension (low, high) =
+    IsGood (below tree site dimension) low × IsGood (above tree site dimension) high
 
 -- elimination keeps what is left of a system inside so many loops, without rows and columns that play no part: as Open, Wide, Many or Work
 pub record IsKeptAs (system : Inequalities) (loops : ℕ) : Type 0 where
@@ -77,7 +85,8 @@ pub record IsKeptAs (system : Inequalities) (loops : ℕ) : Type 0 where
 
 -- there are two such certificates
 abbrev pub HasProof : Tree → Site → ℕ → Type 0
-HasProof tree site dimension = (proof : Certificate × Certificate) × AreProof tree site dimension proof
+HasProof tree site dimension =
+    (proof : Certificate × Certificate) × AreProof tree site dimension proof
 
 -- the order of elimination with two constants and two loops
 pub elimination_order-example : elimination_order 2 2 ≡ 1 ∷ 2 ∷ 3 ∷ 5 ∷ 4 ∷ 6 ∷ []

@@ -10,4 +10,5 @@ use Rattle.nest_walk.specs.declared.cursor.Stop.{Stop}
 
 -- and of a stop with these loops round it
 abbrev pub instances_there : Tree → List Round → Stop → List Instance
-instances_there tree rounds s = instances_of (param_values tree) (statement_of s.item.now) s.first (loops_in tree rounds)
+instances_there tree rounds s =
+    instances_of (param_values tree) (statement_of s.item.now) s.first (loops_in tree rounds)

@@ -33,11 +33,13 @@ answer_word Spent = codes "WORK"
 
 -- the two accesses of a system that is kept: the lines of their statements, and what they access
 abbrev pub accesses_words : Tree → Cause → List (List ℕ)
-accesses_words tree c = codes "LINES" ∷ decimal c.lines.0 ∷ decimal c.lines.1 ∷ codes "NAME" ∷ name_of tree c.variable ∷ []
+accesses_words tree c = codes "LINES" ∷ decimal c.lines.0 ∷ decimal c.lines.1 ∷ codes "NAME"
+    ∷ name_of tree c.variable ∷ []
 
 -- where their obligation lies, and the answer
 abbrev pub place_words : Cause → List (List ℕ)
-place_words c = codes "LEVEL" ∷ decimal c.level ∷ codes "PIECE" ∷ decimal c.piece ∷ answer_word c.word ∷ []
+place_words c =
+    codes "LEVEL" ∷ decimal c.level ∷ codes "PIECE" ∷ decimal c.piece ∷ answer_word c.word ∷ []
 
 abbrev pub why_words : Tree → Cause → List (List ℕ)
 why_words tree c = accesses_words tree c ++ place_words c
@@ -54,15 +56,18 @@ bar_words tree Print = codes "PRINT" ∷ []
 bar_words tree (Meeting c) = accesses_words tree c ++ answer_word c.word ∷ []
 
 abbrev pub loop_line : Tree → LoopReason → List ℕ
-loop_line tree r = line_of (codes "LOOP" ∷ decimal r.number ∷ codes "NOT" ∷ tried_word r.tried ∷ bar_words tree r.bar)
+loop_line tree r = line_of (codes "LOOP" ∷ decimal r.number ∷ codes "NOT" ∷ tried_word r.tried
+    ∷ bar_words tree r.bar)
 
 -- why a weaker kind doesn't stand in front of a phase
 abbrev pub phase_line : Tree → PhaseReason → List ℕ
-phase_line tree r = line_of (codes "PHASE" ∷ decimal r.phase ∷ codes "NOT" ∷ kind_words r.kind ++ why_words tree r.cause)
+phase_line tree r = line_of (codes "PHASE" ∷ decimal r.phase ∷ codes "NOT" ∷ kind_words r.kind
+    ++ why_words tree r.cause)
 
 -- the text: the loops' lines, the phases', and the last one
 abbrev pub reason_lines : Tree → Reasons → List (List ℕ)
-reason_lines tree reasons = map (loop_line tree) reasons.loops.items ++ (map (phase_line tree) reasons.phases.items ++ codes "END REASONS" ∷ [])
+reason_lines tree reasons = map (loop_line tree) reasons.loops.items
+    ++ (map (phase_line tree) reasons.phases.items ++ codes "END REASONS" ∷ [])
 
 abbrev pub reason_text : Tree → Reasons → List ℕ
 reason_text tree reasons = text_of (reason_lines tree reasons)

@@ -78,7 +78,8 @@ IsSought (Named cause) o = IsNamed cause o
 IsSought (Number n) o = ⊥
 
 abbrev pub AreCertifiedUnder : List Task → Wanted → Type 0
-AreCertifiedUnder all wanted = (o : Obligation) → Contains all (task_of o) → IsSought wanted o → IsCertified o.system
+AreCertifiedUnder all wanted =
+    (o : Obligation) → Contains all (task_of o) → IsSought wanted o → IsCertified o.system
 
 -- what a search comes to: one that is told; or none, where it looked at all
 abbrev pub IsSearched : Bool → List Obligation → Wanted → Option Found → Type 0

@@ -24,13 +24,16 @@ with_kind plan t kind = with_kinds plan (slice_set plan.kinds (t - 1) kind)
 
 -- the plan in which the loop with this number, from 1, alone is dealt out, by this try, and one processor does all
 abbrev pub alone_plan : Tree → ℕ → Tried → Plan
-alone_plan tree n t = barrier_plan (cut_of_try tree n t) (maker_anchors tree (cut_of_try tree n t).marks 1) 1 []
+alone_plan tree n t =
+    barrier_plan (cut_of_try tree n t) (maker_anchors tree (cut_of_try tree n t).marks 1) 1 []
 
 -- the systems at a slot of a plan, where these kinds stand in front of its phases
 abbrev pub tasks_at : Tree → Plan → List Kind → Slot → List Task
-tasks_at tree plan kinds slot = slot_tasks tree plan slot (slot_signature plan.version kinds (phases_of tree plan.cut.marks) slot)
+tasks_at tree plan kinds slot = slot_tasks tree plan slot
+    (slot_signature plan.version kinds (phases_of tree plan.cut.marks) slot)
 
 -- the static phases of a plan, and their slots
-pub record AreSlotsOf (tree : Tree) (plan : Plan) (phases : List Phase) (slots : List HeldSlot) : Type 0 where
+pub record AreSlotsOf (tree : Tree) (plan : Plan) (phases : List Phase) (slots : List HeldSlot) :
+    Type 0 where
   pub phases_are : map phase_seen phases ≡ phases_of tree plan.cut.marks
   pub slots_are : map slot_seen slots ≡ slots_of (map phase_seen phases)

@@ -41,12 +41,15 @@ why_of None = Certified
 abbrev pub IsWhySilent : Tree → Plan → Wanted → Why → Type 0
 IsWhySilent tree alone wanted Print = ⊥
 IsWhySilent tree alone wanted (Unfit refusal) = first_refusal tree alone ≡ Some refusal
-IsWhySilent tree alone wanted (Found f) = (first_refusal tree alone ≡ None) × IsFoundIn (obligations_of tree alone) wanted f
-IsWhySilent tree alone wanted Certified = (first_refusal tree alone ≡ None) × AreCertified (obligations_of tree alone) wanted
+IsWhySilent tree alone wanted (Found f) =
+    (first_refusal tree alone ≡ None) × IsFoundIn (obligations_of tree alone) wanted f
+IsWhySilent tree alone wanted Certified =
+    (first_refusal tree alone ≡ None) × AreCertified (obligations_of tree alone) wanted
 
 -- why a loop isn't dealt out by a try: that a PRINT stands in it, exactly where one does
 abbrev pub IsWhySerial : Tree → ℕ → Tried → Wanted → Why → Type 0
-IsWhySerial tree n t wanted why = MatchBool (loop_prints tree n) (why ≡ Print) (IsWhySilent tree (alone_plan tree n t) wanted why)
+IsWhySerial tree n t wanted why =
+    MatchBool (loop_prints tree n) (why ≡ Print) (IsWhySilent tree (alone_plan tree n t) wanted why)
 
 -- why a plan with a weaker kind isn't there: this obligation of it is looked for and told, or each that is looked for has a good certificate
 abbrev pub IsWhyUnder : Tree → Plan → Wanted → Why → Type 0
@@ -118,15 +121,18 @@ kind_question t kind = question (Weaker t kind) First
 abbrev pub weaker_questions : ℕ → List (List Kind) → List Kind → List Question
 weaker_questions t [] kinds = []
 weaker_questions t (ks ∷ candidates) [] = []
-weaker_questions t (ks ∷ candidates) (kind ∷ kinds) = map (kind_question t) (weaker_than kind ks) ++ weaker_questions (suc t) candidates kinds
+weaker_questions t (ks ∷ candidates) (kind ∷ kinds) =
+    map (kind_question t) (weaker_than kind ks) ++ weaker_questions (suc t) candidates kinds
 
 abbrev pub given_questions : Tree → Plan → List Question
-given_questions tree plan = map try_question (all_attempts tree (open_loops 1 plan.cut.marks)) ++ weaker_questions 1 (candidates_in tree plan) plan.kinds
+given_questions tree plan = map try_question (all_attempts tree (open_loops 1 plan.cut.marks))
+    ++ weaker_questions 1 (candidates_in tree plan) plan.kinds
 
 -- a plan is refused for its obligation with this number, whose certificate is missing or bad
 pub data IsRefusedFor (tree : Tree) (plan : Plan) (n : ℕ) : Type 0 where
   missing : (is : first_failure tree plan ≡ Some (Missing n)) → IsRefusedFor tree plan n
-  bad : (fault : CertRefusal) (is : first_failure tree plan ≡ Some (Bad n fault)) → IsRefusedFor tree plan n
+  bad : (fault : CertRefusal) (is : first_failure tree plan ≡ Some (Bad n fault))
+      → IsRefusedFor tree plan n
 
 abbrev pub refusal_question : ℕ → Question
 refusal_question n = question (Refused n) (Number n)
@@ -134,8 +140,10 @@ refusal_question n = question (Refused n) (Number n)
 -- one true reason for each question that a plan raises: for each of its maker's reasons where it is made; where it is given and accepted; for the obligation where it is refused for one
 pub data AreReasons (tree : Tree) (a : Account) : Type 0 where
   made : (workers : ℕ) (is : IsMadeAccount tree workers a) → AreReasons tree a
-  given : (accepted : IsAccepted tree a.plan) (told : AreAnswers tree a (given_questions tree a.plan)) → AreReasons tree a
-  refused : (n : ℕ) (why : IsRefusedFor tree a.plan n) (told : AreAnswers tree a (refusal_question n ∷ [])) → AreReasons tree a
+  given : (accepted : IsAccepted tree a.plan)
+      (told : AreAnswers tree a (given_questions tree a.plan)) → AreReasons tree a
+  refused : (n : ℕ) (why : IsRefusedFor tree a.plan n)
+      (told : AreAnswers tree a (refusal_question n ∷ [])) → AreReasons tree a
 
 -- a plan that is made for so many workers
 abbrev pub IsMadePlan : Tree → ℕ → Plan → Type 0

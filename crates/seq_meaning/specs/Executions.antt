@@ -23,18 +23,22 @@ loaded_at tree loops w memory = map (cell_value memory) (work_loads tree loops w
 
 -- memory behind it
 abbrev pub memory_behind : Tree → List ℤ → Work → List ℤ → List ℤ
-memory_behind tree loops w memory = with_store memory (work_store tree loops w) (assigned tree loops w (loaded_at tree loops w memory))
+memory_behind tree loops w memory = with_store memory (work_store tree loops w)
+    (assigned tree loops w (loaded_at tree loops w memory))
 
 -- what it prints
 abbrev pub printed_behind : Tree → List ℤ → Work → List ℤ → List ℕ
 printed_behind tree loops w memory = printed_text tree loops w (loaded_at tree loops w memory)
 
 -- a statement is a piece of work of the text, with this number and these loops round it, whose accesses are in range there
-pub record IsPlacedWork (tree : Tree) (rounds : List Round) (number : ℕ) (s : Statement) : Type 0 where
+pub record IsPlacedWork (tree : Tree) (rounds : List Round) (number : ℕ) (s : Statement) :
+    Type 0 where
   pub what : Work
   pub is : s ≡ work what
-  pub text : StandFrom (works tree) number (record { what = work what; around = numbers_of rounds } ∷ [])
-  pub numbered : IsTrue (list_all (λ (r : Round). is_number_of (loops_of tree.items) r.number) rounds)
+  pub text : StandFrom (works tree) number
+      (record { what = work what; around = numbers_of rounds } ∷ [])
+  pub numbered : IsTrue (list_all (λ (r : Round). is_number_of (loops_of tree.items) r.number)
+      rounds)
   pub inside : IsTrue (list_all (is_access_inside tree (loops_in tree rounds)) (accesses_of what))
 
 -- a run of a program is ready for an instance

@@ -20,7 +20,8 @@ items_load_count tree items = sum_by (item_load_count tree) items
 -- the text of an item, from what the loads from it on gave
 abbrev pub item_text : Tree → List ℤ → Printed → List ℤ → List ℕ
 item_text tree loops (value e) loaded = number_text (value_of e loops (param_values tree) loaded)
-item_text tree loops (whole variable) loaded = flat_map number_text (take (element_count (bounds_of tree variable)) loaded)
+item_text tree loops (whole variable) loaded =
+    flat_map number_text (take (element_count (bounds_of tree variable)) loaded)
 item_text tree loops (text characters) loaded = 32 ∷ characters
 
 -- an item has a text where there are so many loops: its value exists, or its array is there

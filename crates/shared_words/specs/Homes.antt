@@ -35,7 +35,15 @@ pub record Home : Type 0 where
 
 -- no table is made for none
 abbrev no_plan : Plan
-no_plan = record { version = One; conditions = Values; workers = 0; cut = plain_cut []; anchors = []; kinds = []; certificates = [] }
+no_plan = record {
+  version = One;
+  conditions = Values;
+  workers = 0;
+  cut = plain_cut [];
+  anchors = [];
+  kinds = [];
+  certificates = [];
+}
 
 abbrev pub tree_given : Option Subject → Tree
 tree_given (Some (program, (plan, style))) = tree_of program
@@ -82,19 +90,43 @@ next_act v = act_at (protocol_at v.home) v.processor v.position
 
 -- behind the next act, and those behind it that no other processor sees
 abbrev pub gone : CellView → CellView
-gone v = record { home = v.home; processor = v.processor; position = behind (protocol_at v.home) v.processor v.position; misses = 0; seen = 0 }
+gone v = record {
+  home = v.home;
+  processor = v.processor;
+  position = behind (protocol_at v.home) v.processor v.position;
+  misses = 0;
+  seen = 0;
+}
 
 -- behind all awaits of a barrier that stand next
 abbrev pub through : CellView → CellView
-through v = record { home = v.home; processor = v.processor; position = behind_row (protocol_at v.home) v.processor v.position; misses = 0; seen = 0 }
+through v = record {
+  home = v.home;
+  processor = v.processor;
+  position = behind_row (protocol_at v.home) v.processor v.position;
+  misses = 0;
+  seen = 0;
+}
 
 -- behind a poll that found this, which is too little
 abbrev pub missed : ℕ → CellView → CellView
-missed seen v = record { home = v.home; processor = v.processor; position = v.position; misses = v.misses + 1; seen = seen }
+missed seen v = record {
+  home = v.home;
+  processor = v.processor;
+  position = v.position;
+  misses = v.misses + 1;
+  seen = seen;
+}
 
 -- the same seats in another home
 abbrev pub seat_in : Home → CellView → CellView
-seat_in h v = record { home = h; processor = v.processor; position = v.position; misses = v.misses; seen = v.seen }
+seat_in h v = record {
+  home = h;
+  processor = v.processor;
+  position = v.position;
+  misses = v.misses;
+  seen = v.seen;
+}
 
 abbrev pub main_in : Home → MainView → MainView
 main_in h v = record { home = h; stages = v.stages }
@@ -161,16 +193,24 @@ stages_of Spent = []
 stages_of Over = []
 
 abbrev pub cell_view : TableId → View → CellView
-cell_view id v = record { home = home_of id v; processor = processor_of (role_in v); position = position_of (role_in v); misses = misses_of (role_in v); seen = seen_of (role_in v) }
+cell_view id v = record {
+  home = home_of id v;
+  processor = processor_of (role_in v);
+  position = position_of (role_in v);
+  misses = misses_of (role_in v);
+  seen = seen_of (role_in v);
+}
 
 abbrev pub main_view : TableId → View → MainView
 main_view id v = record { home = home_of id v; stages = stages_of (role_in v) }
 
 -- a seat's view is that of this processor, and so many arrivals there are once all have arrived as often; its next act is one that another processor may see
 pub record IsSeatOf (v : View) (p all : ℕ) : Type 0 where
-  pub role : role_in v ≡ Cell p (position_of (role_in v)) (misses_of (role_in v)) (seen_of (role_in v))
+  pub role : role_in v ≡ Cell p (position_of (role_in v)) (misses_of (role_in v))
+      (seen_of (role_in v))
   pub worker : p < (protocol_in v).workers
-  pub arrived : all ≡ (protocol_in v).workers * arrivals_at (protocol_in v) p (position_of (role_in v))
+  pub arrived : all ≡ (protocol_in v).workers
+      * arrivals_at (protocol_in v) p (position_of (role_in v))
   pub settled : settled_at (protocol_in v) p (position_of (role_in v)) ≡ position_of (role_in v)
 
 -- a table has the words of a program under a plan that can run it in a style, with so many cells, and its arrivals at this word

@@ -24,5 +24,8 @@ pub record Went (vain : Type 0) (at new : ℕ) (ended over : Bool) : Type 0 wher
 -- where one worker hasn't ended, less is left behind a leg of each: who stood in vain did so at the places in front of the legs
 abbrev pub LeaveLess : Style → Tree → Plan → Type 0
 LeaveLess style tree plan = let m = protocol_by style tree plan in
-    (at new : ℕ → ℕ) (ended over : ℕ → Bool) (one : ℕ) → ((p : ℕ) → p < m.workers → Went (IsInVain m.acts at p (at p)) (at p) (new p) (ended p) (over p)) → ((p : ℕ) → p < m.workers → ended p ≡ true → at p ≡ length (m.acts p))
-    → ((p : ℕ) → p < m.workers → new p ≤ length (m.acts p)) → one < m.workers → ended one ≡ false → left_of_all m.acts new over m.workers < left_of_all m.acts at ended m.workers
+    (at new : ℕ → ℕ) (ended over : ℕ → Bool) (one : ℕ)
+    → ((p : ℕ) → p < m.workers → Went (IsInVain m.acts at p (at p)) (at p) (new p) (ended p)
+    (over p)) → ((p : ℕ) → p < m.workers → ended p ≡ true → at p ≡ length (m.acts p))
+    → ((p : ℕ) → p < m.workers → new p ≤ length (m.acts p)) → one < m.workers → ended one ≡ false
+    → left_of_all m.acts new over m.workers < left_of_all m.acts at ended m.workers

@@ -41,10 +41,12 @@ table_protocol k = protocol_given (Some (subject_of k))
 pub record Shown {S : Type 0} (k : Given) (s : State S View) : Type 0 where
   pub one : AreOne (table_protocol k) s.words (roles_in s.views)
   pub home : AreAtHome (subject_of k) s.views
-  pub reached : (j : ℕ) (v : View) → get_elem? s.views j ≡ some v → AreReached (table_protocol k) (slice_index (known_in v)) one.at
+  pub reached : (j : ℕ) (v : View) → get_elem? s.views j ≡ some v
+      → AreReached (table_protocol k) (slice_index (known_in v)) one.at
 
 abbrev pub first_view : Given → View
-first_view k = Seated k.program.now k.plan.now k.style (replicate k.plan.now.workers 0) (Main (replicate k.plan.now.workers NotOut))
+first_view k = Seated k.program.now k.plan.now k.style (replicate k.plan.now.workers 0)
+    (Main (replicate k.plan.now.workers NotOut))
 
 abbrev pub with_role : View → Role → View
 with_role (Seated program plan style known old) r = Seated program plan style known r
@@ -70,14 +72,18 @@ wanted_by (Some (print place)) = 0
 -- a poll goes on where it found enough; another one is a miss, which keeps what it found
 abbrev pub polls_to : Protocol → Role → ℕ → Role
 polls_to m (Main stages) found = Main stages
-polls_to m (Cell p n misses seen) found = if nat_le (wanted_by (act_at m p n)) found then Cell p (behind m p n) 0 0 else Cell p n (misses + 1) found
+polls_to m (Cell p n misses seen) found = if nat_le (wanted_by (act_at m p n)) found
+    then Cell p (behind m p n) 0 0
+    else Cell p n (misses + 1) found
 polls_to m Spent found = Spent
 polls_to m Over found = Over
 
 -- a poll of all arrivals goes on behind all awaits of the barrier
 abbrev pub rows_to : Protocol → Role → ℕ → Role
 rows_to m (Main stages) found = Main stages
-rows_to m (Cell p n misses seen) found = if nat_le (m.workers * arrivals_at m p n) found then Cell p (behind_row m p n) 0 0 else Cell p n (misses + 1) found
+rows_to m (Cell p n misses seen) found = if nat_le (m.workers * arrivals_at m p n) found
+    then Cell p (behind_row m p n) 0 0
+    else Cell p n (misses + 1) found
 rows_to m Spent found = Spent
 rows_to m Over found = Over
 
@@ -90,7 +96,8 @@ staged p stage Over = Over
 
 -- not all that the seat's processor awaits with its next act was posted at the places that the seat knows
 abbrev pub IsVainAt : View → Type 0
-IsVainAt v = IsInVain (protocol_in v).acts (slice_index (known_in v)) (processor_of (role_in v)) (position_of (role_in v))
+IsVainAt v = IsInVain (protocol_in v).acts (slice_index (known_in v)) (processor_of (role_in v))
+    (position_of (role_in v))
 
 -- what a poll of this number finds is enough, or was in vain
 abbrev pub VainWhere : View → (wanted found : ℕ) → Type 0
@@ -98,16 +105,23 @@ VainWhere v wanted found = nat_le wanted found ≡ false → IsVainAt v
 
 module _ {S : Type 0} where
   abbrev pub loads : Step S → Me S View → ℕ → Me S View → Type 0
-  loads s v found w = (w ≡ (with_role v.0 (goes_to (protocol_in v.0) (role_in v.0)), v.1)) × (word_value found ≡ (protocol_in v.0).loaded_at (processor_of (role_in v.0)) (position_of (role_in v.0)))
+  loads s v found w = (w ≡ (with_role v.0 (goes_to (protocol_in v.0) (role_in v.0)), v.1))
+      × (word_value found ≡ (protocol_in v.0).loaded_at (processor_of (role_in v.0))
+      (position_of (role_in v.0)))
 
   abbrev pub goes : Step S → Me S View → ℕ → Me S View → Type 0
   goes s v found w = (w ≡ (with_role v.0 (goes_to (protocol_in v.0) (role_in v.0)), v.1)) × Unit {0}
 
   abbrev pub polls : Step S → Me S View → ℕ → Me S View → Type 0
-  polls s v found w = (w ≡ (with_role v.0 (polls_to (protocol_in v.0) (role_in v.0) found), v.1)) × VainWhere v.0 (wanted_by (act_at (protocol_in v.0) (processor_of (role_in v.0)) (position_of (role_in v.0)))) found
+  polls s v found w = (w ≡ (with_role v.0 (polls_to (protocol_in v.0) (role_in v.0) found), v.1))
+      × VainWhere v.0 (wanted_by (act_at (protocol_in v.0) (processor_of (role_in v.0))
+      (position_of (role_in v.0)))) found
 
   abbrev pub rows : Step S → Me S View → ℕ → Me S View → Type 0
-  rows s v found w = (w ≡ (with_role v.0 (rows_to (protocol_in v.0) (role_in v.0) found), v.1)) × VainWhere v.0 ((protocol_in v.0).workers * arrivals_at (protocol_in v.0) (processor_of (role_in v.0)) (position_of (role_in v.0))) found
+  rows s v found w = (w ≡ (with_role v.0 (rows_to (protocol_in v.0) (role_in v.0) found), v.1))
+      × VainWhere v.0 ((protocol_in v.0).workers
+      * arrivals_at (protocol_in v.0) (processor_of (role_in v.0)) (position_of (role_in v.0)))
+      found
 
 abbrev pub taken_out : ℕ → View → View
 taken_out p v = with_role v (staged p Out (role_in v))
@@ -133,5 +147,6 @@ told v = with_role v Spent
 
 -- a seat that has learnt it, and adds its own place
 abbrev pub learnt : View → View → View
-learnt (Seated program plan style known role) w = Seated program plan style (noted role (known_in w)) role
+learnt (Seated program plan style known role) w =
+    Seated program plan style (noted role (known_in w)) role
 learnt Away w = Away

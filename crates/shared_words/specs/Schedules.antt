@@ -8,7 +8,8 @@ use Rattle.spmd_model.specs.declared.style.Style.{Style}
 use Rattle.shared_words.specs.Runs.{AreWordsOf}
 
 -- these words show, at these places, the state behind a schedule of the program's machine under the plan
-pub record HasSchedule (style : Style) (tree : Tree) (plan : Plan) (words : List ℕ) (at : ℕ → ℕ) : Type 0 where
+pub record HasSchedule (style : Style) (tree : Tree) (plan : Plan) (words : List ℕ) (at : ℕ → ℕ) :
+    Type 0 where
   pub schedule : List ℕ
   pub workers : All (λ p. p < plan.workers) schedule
   pub shows : AreWordsOf style tree plan words at (run_of (machine_by style tree plan) schedule)

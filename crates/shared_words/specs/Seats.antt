@@ -12,7 +12,8 @@ use Rattle.shared_words.specs.declared.roles.Stage.TheVariants.{NotOut, Out, End
 -- what the role of seat number j says, where the processors have come to these stages, seats and places
 abbrev pub Says : Protocol → List Stage → (ℕ → ℕ) → (ℕ → ℕ) → ℕ → Role → Type 0
 Says m stages seats at j (Main mine) = (j ≡ 0) × (mine ≡ stages)
-Says m stages seats at j (Cell p n misses seen) = (p < m.workers) × (slice_get stages p ≡ Some Out) × (seats p ≡ j) × (at p ≡ n)
+Says m stages seats at j (Cell p n misses seen) =
+    (p < m.workers) × (slice_get stages p ≡ Some Out) × (seats p ≡ j) × (at p ≡ n)
 Says m stages seats at j Spent = Unit {0}
 Says m stages seats at j Over = (q : ℕ) → q < m.workers → slice_get stages q ≡ Some Ended
 

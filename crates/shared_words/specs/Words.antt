@@ -34,16 +34,20 @@ cells_in m words = map word_value (take m.cells words)
 -- the arrival word is the sum of all arrivals, and nobody has passed a barrier at which another has still to arrive
 pub record AreGathered (m : Protocol) (words : List ℕ) (at : ℕ → ℕ) : Type 0 where
   pub sum : slice_index words (arrival_word m) ≡ total (λ q. arrivals_at m q (at q)) m.workers
-  pub passed : (p q : ℕ) → p < m.workers → q < m.workers → passed_at m p (at p) ≤ arrivals_at m q (at q)
+  pub passed : (p q : ℕ) → p < m.workers → q < m.workers
+      → passed_at m p (at p) ≤ arrivals_at m q (at q)
 
 -- whoever is awaited at a barrier behind these places has posted there
 abbrev pub AreAwaited : Protocol → (ℕ → ℕ) → Type 0
-AreAwaited m at = (p i q number : ℕ) → p < m.workers → i < at p → act_at m p i ≡ Some (await counter q number) → m.gathers number ≡ true → IsPosted (m.acts q) counter number (at q)
+AreAwaited m at = (p i q number : ℕ) → p < m.workers → i < at p
+    → act_at m p i ≡ Some (await counter q number) → m.gathers number ≡ true
+    → IsPosted (m.acts q) counter number (at q)
 
 -- the words show the machine at these places
 pub record AreShown (m : Protocol) (words : List ℕ) (at : ℕ → ℕ) : Type 0 where
   pub wide : length words ≡ word_count m
   pub cells : m.lawful (cells_in m words) at
-  pub counters : (w : Word) (q : ℕ) → q < m.workers → slice_index words (word_of m w q) ≡ shown_at m w q (at q)
+  pub counters : (w : Word) (q : ℕ) → q < m.workers
+      → slice_index words (word_of m w q) ≡ shown_at m w q (at q)
   pub gathered : AreGathered m words at
   pub awaited : AreAwaited m at

@@ -12,7 +12,8 @@ abbrev pub bench_lines : ℕ → ℕ → List (List ℕ)
 bench_lines points sweeps =
     codes "      PROGRAM BENCH"
     ∷ codes "      INTEGER N, M"
-    ∷ (codes "      PARAMETER (N=" ++ (decimal points ++ (codes ", M=" ++ (decimal sweeps ++ codes ")"))))
+    ∷ (codes "      PARAMETER (N=" ++ (decimal points
+    ++ (codes ", M=" ++ (decimal sweeps ++ codes ")"))))
     ∷ codes "      INTEGER A(0:N+1), B(0:N+1)"
     ∷ codes "      DO 10 I = 0, N+1"
     ∷ codes "   10 A(I) = 7*I - I*I"
@@ -40,11 +41,13 @@ count_of word kinds = word ++ 32 ∷ decimal (waits_called word kinds)
 -- the same of these words, each with a blank in front but the first, which has this there
 abbrev pub counts_behind : List ℕ → List (List ℕ) → List Kind → List ℕ
 counts_behind before [] kinds = []
-counts_behind before (word ∷ words) kinds = before ++ (count_of word kinds ++ counts_behind (codes " ") words kinds)
+counts_behind before (word ∷ words) kinds =
+    before ++ (count_of word kinds ++ counts_behind (codes " ") words kinds)
 
 -- the sizes and the workers, and how many waits of each kind the plan has
 abbrev pub bench_head : ℕ → ℕ → ℕ → Plan → List ℕ
 bench_head workers points sweeps plan = text_of (
-    (codes "BENCH N " ++ (decimal points ++ (codes " M " ++ (decimal sweeps ++ (codes " WORKERS " ++ decimal workers)))))
+    (codes "BENCH N " ++ (decimal points ++ (codes " M "
+    ++ (decimal sweeps ++ (codes " WORKERS " ++ decimal workers)))))
     ∷ counts_behind [] all_words plan.kinds
     ∷ [])

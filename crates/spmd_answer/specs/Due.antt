@@ -69,11 +69,13 @@ wrong_sweep = due_for errors.BadSweep
 abbrev pub setting_error : Behind → ℕ → InputError
 setting_error Comments index = errors.Statement (BadSetting index)
 setting_error PlanText index = errors.Statement (BadSetting index)
-setting_error SweptPlan index = if index == 1 then errors.BadSweep else errors.Statement (BadSetting (index - 1))
+setting_error SweptPlan index =
+    if index == 1 then errors.BadSweep else errors.Statement (BadSetting (index - 1))
 
 -- a refusal of a statement or of a setting, as it is told
 abbrev pub statement_error : Behind → Refusal → InputError
-statement_error behind (refusals.Statement fault line) = errors.Statement (refusals.Statement fault line)
+statement_error behind (refusals.Statement fault line) =
+    errors.Statement (refusals.Statement fault line)
 statement_error behind (BadSetting index) = setting_error behind index
 statement_error behind refusals.NoMemory = errors.Statement refusals.NoMemory
 
@@ -94,7 +96,8 @@ is_alone SweptPlan = false
 
 -- due with the first refusal of a source, where there is one: of its lines, of what stands behind END, of its statements, of the settings' names, of its limits, of its subscripts
 abbrev pub due_of_refusal : Behind → List ℕ → List (Name × ℤ) → Option Due
-due_of_refusal behind bytes settings = option_map (due_of_error behind) (first_error (is_alone behind) bytes settings)
+due_of_refusal behind bytes settings =
+    option_map (due_of_error behind) (first_error (is_alone behind) bytes settings)
 
 -- what may stand behind the END line for a request
 abbrev pub behind_of : Wanted → Behind
@@ -145,7 +148,10 @@ abbrev pub Readings : Type 0
 Readings = Sweep → ℤ → Option Due × Tree
 
 abbrev pub readings : List (Name × ℤ) → List ℕ → Readings
-readings settings bytes s value = (due_of_refusal SweptPlan bytes (settings_at s settings value), program_in (entries_of bytes) (settings_at s settings value))
+readings settings bytes s value = (
+  due_of_refusal SweptPlan bytes (settings_at s settings value),
+  program_in (entries_of bytes) (settings_at s settings value),
+)
 
 -- why a plan doesn't fit a program, or that it is accepted for it
 abbrev pub fit_text : Option PlanRefusal → List ℕ
@@ -172,7 +178,8 @@ count_in s = as_count (s.high -ℤ s.low +ℤ pos 1)
 
 -- each value of a sweep, and what is due with it
 abbrev pub swept_text : Tree → Plan → (ℤ → Option Due × Tree) → Sweep → List ℕ
-swept_text proved plan at s = value_lines (λ value. reading_text proved plan (at value)) s.low (count_in s)
+swept_text proved plan at s =
+    value_lines (λ value. reading_text proved plan (at value)) s.low (count_in s)
 
 -- What is written of a run by this plan, with these bytes behind the program's END line: of `run` the plan's text and then the sequential output; of `bench` the sizes, how many waits of each kind the plan has, and then the output.
 abbrev pub IsTextBy : Wanted → Tree → List ℕ → Plan → List ℕ → Type 0
@@ -180,17 +187,24 @@ IsTextBy (sequential settings) tree bytes plan text = ⊥
 IsTextBy (verify settings) tree bytes plan text = ⊥
 IsTextBy (swept s settings) tree bytes plan text = ⊥
 IsTextBy (planned workers settings) tree bytes plan text = ⊥
-IsTextBy (run workers choice by settings) tree bytes plan text = IsPlanFor choice workers tree bytes plan × (text ≡ plan_text plan ++ output_of tree)
-IsTextBy (bench workers points sweeps) tree bytes plan text = IsPlanFor Made workers tree bytes plan × (text ≡ bench_head workers points sweeps plan ++ output_of tree)
+IsTextBy (run workers choice by settings) tree bytes plan text =
+    IsPlanFor choice workers tree bytes plan × (text ≡ plan_text plan ++ output_of tree)
+IsTextBy (bench workers points sweeps) tree bytes plan text = IsPlanFor Made workers tree bytes plan
+    × (text ≡ bench_head workers points sweeps plan ++ output_of tree)
 
 -- What is written for a request on a program, with these bytes behind its END line: of a sequential run the output; that the plan is accepted; of a sweep, whose source has these readings, a line for each value, by a plan that is proved on the program; of a plan that is made the plan's text and then that of its reasons; of a run what is written of it by some plan.
 abbrev pub IsTextFor : Wanted → Tree → Readings → List ℕ → List ℕ → Type 0
 IsTextFor (sequential settings) tree at bytes text = text ≡ output_of tree
-IsTextFor (verify settings) tree at bytes text = (plan : Plan) × IsTaken None tree bytes plan × (text ≡ line (codes "ACCEPTED"))
-IsTextFor (swept s settings) tree at bytes text = (plan : Plan) × IsProvedPlan tree bytes plan × (text ≡ swept_text tree plan (at s) s)
-IsTextFor (planned workers settings) tree at bytes text = (made : Plan) × (reasons : Reasons) × IsMade tree workers made reasons × (text ≡ plan_text made ++ reason_text tree reasons)
-IsTextFor (run workers choice by settings) tree at bytes text = (plan : Plan) × IsTextBy (run workers choice by settings) tree bytes plan text
-IsTextFor (bench workers points sweeps) tree at bytes text = (plan : Plan) × IsTextBy (bench workers points sweeps) tree bytes plan text
+IsTextFor (verify settings) tree at bytes text =
+    (plan : Plan) × IsTaken None tree bytes plan × (text ≡ line (codes "ACCEPTED"))
+IsTextFor (swept s settings) tree at bytes text =
+    (plan : Plan) × IsProvedPlan tree bytes plan × (text ≡ swept_text tree plan (at s) s)
+IsTextFor (planned workers settings) tree at bytes text = (made : Plan) × (reasons : Reasons)
+    × IsMade tree workers made reasons × (text ≡ plan_text made ++ reason_text tree reasons)
+IsTextFor (run workers choice by settings) tree at bytes text =
+    (plan : Plan) × IsTextBy (run workers choice by settings) tree bytes plan text
+IsTextFor (bench workers points sweeps) tree at bytes text =
+    (plan : Plan) × IsTextBy (bench workers points sweeps) tree bytes plan text
 
 -- The line with which the plan is refused that stands behind END: no request has one where no plan may stand there.
 abbrev pub IsRefusalFor : Wanted → Tree → List ℕ → List ℕ → Type 0
@@ -200,13 +214,17 @@ IsRefusalFor (swept s settings) tree bytes reason = IsUnprovedPlan tree bytes re
 IsRefusalFor (planned workers settings) tree bytes reason = ⊥
 IsRefusalFor (run workers Made by settings) tree bytes reason = ⊥
 IsRefusalFor (run workers Barrier by settings) tree bytes reason = ⊥
-IsRefusalFor (run workers Given by settings) tree bytes reason = IsRefusedPlan (Some workers) tree bytes reason
+IsRefusalFor (run workers Given by settings) tree bytes reason =
+    IsRefusedPlan (Some workers) tree bytes reason
 IsRefusalFor (bench workers points sweeps) tree bytes reason = ⊥
 
 -- Due for a request on a program, whose source has these readings, and these bytes behind its END line.
-pub data IsDueOn (wanted : Wanted) (tree : Tree) (at : Readings) (bytes : List ℕ) (due : Due) : Type 0 where
-  unaccepted : (reason : List ℕ) (is : IsRefusalFor wanted tree bytes reason) (due_is : due ≡ plan_refused reason) → IsDueOn wanted tree at bytes due
-  written : (text : List ℕ) (is : IsTextFor wanted tree at bytes text) (due_is : due ≡ done text) → IsDueOn wanted tree at bytes due
+pub data IsDueOn (wanted : Wanted) (tree : Tree) (at : Readings) (bytes : List ℕ) (due : Due) :
+    Type 0 where
+  unaccepted : (reason : List ℕ) (is : IsRefusalFor wanted tree bytes reason)
+      (due_is : due ≡ plan_refused reason) → IsDueOn wanted tree at bytes due
+  written : (text : List ℕ) (is : IsTextFor wanted tree at bytes text) (due_is : due ≡ done text)
+      → IsDueOn wanted tree at bytes due
 
 -- a refusal, where there is one, or else what is due without
 abbrev pub IsFirstOr : Option Due → (Due → Type 0) → Due → Type 0
@@ -217,4 +235,5 @@ IsFirstOr None IsElse due = IsElse due
 abbrev pub IsDueOf : Wanted → List (Name × ℤ) → List ℕ → Due → Type 0
 IsDueOf wanted settings bytes due =
     IsFirstOr (due_of_refusal (behind_of wanted) bytes (settings_for wanted settings))
-    (IsDueOn wanted (program_in (entries_of bytes) (settings_for wanted settings)) (readings settings bytes) (behind_end bytes)) due
+    (IsDueOn wanted (program_in (entries_of bytes) (settings_for wanted settings))
+    (readings settings bytes) (behind_end bytes)) due

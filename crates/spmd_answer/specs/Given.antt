@@ -10,7 +10,8 @@ use Rattle.plan_input.specs.Errors.{IsRefusedBy, IsTextOf}
 use Rattle.plan_input.specs.declared.error.InputError.{InputError}
 
 -- The line with which bytes are refused as a plan, by the first reason against a plan.
-pub record IsRefusedWith (reason_of : Plan → Option PlanRefusal) (bytes : List ℕ) (text : List ℕ) : Type 0 where
+pub record IsRefusedWith (reason_of : Plan → Option PlanRefusal) (bytes : List ℕ) (text : List ℕ) :
+    Type 0 where
   pub error : InputError
   pub is : IsRefusedBy reason_of bytes error
   pub text_is : text ≡ text_of_error error

@@ -14,4 +14,7 @@ readings_of input = readings (map setting_of input.settings.now) input.bytes.now
 
 -- what a source of a sweep is with these settings
 abbrev pub reading_with : List Setting → List ℕ → Option Due × Tree
-reading_with settings bytes = (due_of_refusal SweptPlan bytes (map setting_of settings), program_in (entries_of bytes) (map setting_of settings))
+reading_with settings bytes = (
+  due_of_refusal SweptPlan bytes (map setting_of settings),
+  program_in (entries_of bytes) (map setting_of settings),
+)

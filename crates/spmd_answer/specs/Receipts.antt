@@ -33,7 +33,8 @@ engine_for (run workers choice by settings) = by
 engine_for wanted = Spmd Arrive
 
 -- The receipt is of a run of this program by the request's engine, under a plan by which this text is written for the request.
-pub record IsReceiptOf (wanted : Wanted) (tree : Tree) (bytes text : List ℕ) (r : Receipt) : Type 0 where
+pub record IsReceiptOf (wanted : Wanted) (tree : Tree) (bytes text : List ℕ) (r : Receipt) :
+    Type 0 where
   pub plan : Plan
   pub left : IsLeftBy (engine_for wanted) tree plan r
   pub written : IsTextBy wanted tree bytes plan text
@@ -41,8 +42,10 @@ pub record IsReceiptOf (wanted : Wanted) (tree : Tree) (bytes text : List ℕ) (
 -- Where what is due for a request on a program is written by a run, there is its receipt; else there is none.
 abbrev pub HasReceipt : Wanted → Tree → List ℕ → Due → Option Receipt → Type 0
 HasReceipt wanted tree bytes due None = is_run wanted ≡ true → due.status ≢ Done
-HasReceipt wanted tree bytes due (Some r) = (is_run wanted ≡ true) × (due.status ≡ Done) × IsReceiptOf wanted tree bytes due.text r
+HasReceipt wanted tree bytes due (Some r) =
+    (is_run wanted ≡ true) × (due.status ≡ Done) × IsReceiptOf wanted tree bytes due.text r
 
 -- The same, from the bytes of a source.
 abbrev pub HasReceiptOf : Wanted → List (Name × ℤ) → List ℕ → Due → Option Receipt → Type 0
-HasReceiptOf wanted settings bytes due receipt = HasReceipt wanted (program_in (entries_of bytes) (settings_for wanted settings)) (behind_end bytes) due receipt
+HasReceiptOf wanted settings bytes due receipt = HasReceipt wanted
+    (program_in (entries_of bytes) (settings_for wanted settings)) (behind_end bytes) due receipt

@@ -28,10 +28,14 @@ pub record HasRun (e : End) : Type 0 where
   pub schedule : List ℕ
   pub workers : All (λ p. p < e.plan.workers) schedule
   pub ended : IsEnded (machine_at e) (run_of (machine_at e) schedule)
-  pub memory : e.memory ≡ take (cell_count (tree_of e.program)) (run_of (machine_at e) schedule).memory
+  pub memory : e.memory ≡ take (cell_count (tree_of e.program))
+      (run_of (machine_at e) schedule).memory
 
 -- how it is stored in proofs
 abbrev pub end_code : Coded End
 end_code =
-    code_by (Program × (Plan × (Style × List ℤ))) (coded× programs.the_row.coded (coded× plans.the_row.coded (coded× styles.the_row.coded (coded_list coded_ℤ)))) (λ e. (e.program, (e.plan, (e.style, e.memory))))
+    code_by (Program × (Plan × (Style × List ℤ)))
+    (coded× programs.the_row.coded (coded× plans.the_row.coded
+    (coded× styles.the_row.coded (coded_list coded_ℤ))))
+    (λ e. (e.program, (e.plan, (e.style, e.memory))))
     (λ x. record { program = x.0; plan = x.1.0; style = x.1.1.0; memory = x.1.1.1 }) (λ _. refl)

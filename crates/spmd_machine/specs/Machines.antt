@@ -52,7 +52,8 @@ shared_in m = cell_count (tree_in m)
 
 -- the state that a machine shows
 unfoldable pub shown : Parts → State
-shown m = state_of (style_in m) (tree_in m) (plan_in m) m.processors.items m.memory.items m.output.bytes
+shown m =
+    state_of (style_in m) (tree_in m) (plan_in m) m.processors.items m.memory.items m.output.bytes
 
 -- what contracts see of a machine
 abbrev pub view_of : Parts → MachineView
@@ -62,7 +63,9 @@ view_of m = record { program = m.program.now; plan = m.plan.now; style = m.style
 abbrev pub answer_at : State → Option Act → StepAnswer
 answer_at s None = Ended
 answer_at s (Some (post word number)) = Stepped
-answer_at s (Some (await word on wanted)) = if nat_le wanted (slice_index (words_of s word) on) then Stepped else Blocked on wanted (slice_index (words_of s word) on)
+answer_at s (Some (await word on wanted)) = if nat_le wanted (slice_index (words_of s word) on)
+    then Stepped
+    else Blocked on wanted (slice_index (words_of s word) on)
 answer_at s (Some (load place cell)) = Stepped
 answer_at s (Some (store place cell)) = Stepped
 answer_at s (Some (add place cell)) = Stepped
@@ -83,14 +86,18 @@ pub record IsMachine (m : Parts) : Type 0 where
   pub ranges : IsInRange (tree_in m)
   pub fits : IsFit (tree_in m) (plan_in m)
   pub table : IsCellTable (tree_in m) m.table
-  pub wide : (n k : ℕ) (cells : WorkCells) (l : LoadCells) → slice_get (entries m.table) n ≡ Some cells → slice_get cells.loads.items k ≡ Some l → 0 < width l
+  pub wide : (n k : ℕ) (cells : WorkCells) (l : LoadCells)
+      → slice_get (entries m.table) n ≡ Some cells → slice_get cells.loads.items k ≡ Some l
+      → 0 < width l
   pub codes : IsCodeTable (tree_in m) m.codes
   pub params : m.params.items ≡ param_values (tree_in m)
   pub loops : loops_of (tree_in m).items ≤ length m.loops.items
   pub code_room : most_registers m.codes ≤ length m.code_registers.items
   pub cells : length m.memory.items ≡ cell_count (tree_in m)
   pub count : length m.processors.items ≡ (plan_in m).workers
-  pub kept : (p : ℕ) (d : Processor) → p < length m.processors.items → IsKept (style_in m) (tree_in m) (plan_in m) (entries m.table) p (slice_index_or m.processors.items p d)
+  pub kept : (p : ℕ) (d : Processor) → p < length m.processors.items
+      → IsKept (style_in m) (tree_in m) (plan_in m) (entries m.table) p
+      (slice_index_or m.processors.items p d)
   pub room : length m.output.bytes + sum_by (room_of (tree_in m)) m.processors.items ≤ m.output.room
   pub reached : IsReached (model_of m) (shown m)
 
@@ -104,21 +111,26 @@ HasDone m p n = (d : Processor) → (slice_index_or m.processors.items p d).done
 
 -- the instance at a stop that comes next of a processor loads this of the cells that all share next, or nothing more
 abbrev pub LoadsIn : Processor → Stop → Option ℕ → Type 0
-LoadsIn x stop cell = (comes : IsInstance (counters_tree x.turns.counters) (turns_rounds x.turns) stop) → slice_get (loads_of (counters_tree x.turns.counters) comes.instance) x.done ≡ cell
+LoadsIn x stop cell = (comes : IsInstance (counters_tree x.turns.counters) (turns_rounds x.turns)
+    stop) → slice_get (loads_of (counters_tree x.turns.counters) comes.instance) x.done ≡ cell
 
 abbrev pub LoadsNext : Parts → ℕ → Stop → Option ℕ → Type 0
-LoadsNext m p stop cell = (d : Processor) → LoadsIn (slice_index_or m.processors.items p d) stop cell
+LoadsNext m p stop cell =
+    (d : Processor) → LoadsIn (slice_index_or m.processors.items p d) stop cell
 
 -- the instance at a stop that comes next of processor p stores to this of the cells that all share
 abbrev pub StoresIn : Tree → Processor → Stop → ℕ → Type 0
-StoresIn tree x stop cell = (comes : IsInstance (counters_tree x.turns.counters) (turns_rounds x.turns) stop) → store_of tree comes.instance ≡ Some cell
+StoresIn tree x stop cell = (comes : IsInstance (counters_tree x.turns.counters)
+    (turns_rounds x.turns) stop) → store_of tree comes.instance ≡ Some cell
 
 abbrev pub StoresNext : Parts → ℕ → Stop → ℕ → Type 0
-StoresNext m p stop cell = (d : Processor) → StoresIn (tree_in m) (slice_index_or m.processors.items p d) stop cell
+StoresNext m p stop cell =
+    (d : Processor) → StoresIn (tree_in m) (slice_index_or m.processors.items p d) stop cell
 
 -- an access of a cell by processor p goes to this spot: to its own cell where it is that of an own scalar of its phase
 abbrev pub IsSpot : Parts → ℕ → Spot → Type 0
-IsSpot m p spot = (d : Processor) → (own_of (tree_in m) (plan_in m) (slice_index_or m.processors.items p d).turns.place).slot spot.cell ≡ spot.own
+IsSpot m p spot = (d : Processor) → (own_of (tree_in m) (plan_in m)
+    (slice_index_or m.processors.items p d).turns.place).slot spot.cell ≡ spot.own
 
 -- of the same program and plan, in the same style
 pub record IsSameMachine (old new : Parts) : Type 0 where

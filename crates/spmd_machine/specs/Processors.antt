@@ -25,14 +25,16 @@ unfoldable pub all_of : Style → Tree → Plan → ℕ → List Deed
 all_of style tree plan p = deeds_by style tree plan p 1 0 (phases tree plan.cut.marks)
 
 abbrev pub deeds_left : Turns → List Deed
-deeds_left c = flat_map (turn_deeds (turns_tree c) (turns_plan c) (turns_processor c)) (turns_left c)
+deeds_left c =
+    flat_map (turn_deeds (turns_tree c) (turns_plan c) (turns_processor c)) (turns_left c)
 
 unfoldable pub left_of : Processor → List Deed
 left_of x = drop x.done (deeds_left x.turns)
 
 -- how much of it is done
 unfoldable pub position_of : Style → Tree → Plan → Processor → ℕ
-position_of style tree plan x = length (all_of style tree plan (turns_processor x.turns)) - length (left_of x)
+position_of style tree plan x =
+    length (all_of style tree plan (turns_processor x.turns)) - length (left_of x)
 
 -- the cells that all share, and behind them each processor's own
 abbrev pub memory_of : List Processor → List ℤ → List ℤ
@@ -65,14 +67,17 @@ pub record IsRunning (cells : WorkCells) (x : Processor) : Type 0 where
 pub record IsClosing (k : ℕ) (x : Processor) : Type 0 where
   pub first_load : x.place.load ≡ 0
   pub first_element : x.place.element ≡ 0
-  pub stage : (x.done ≡ 0) × (x.registers.items ≡ []) ⊎ ((x.done ≡ 1) × (length x.registers.items ≡ 1)) ⊎ ((16 ≤ k) × (x.done ≡ 2) × (x.registers.items ≡ []))
+  pub stage : (x.done ≡ 0) × (x.registers.items ≡ [])
+      ⊎ ((x.done ≡ 1) × (length x.registers.items ≡ 1))
+      ⊎ ((16 ≤ k) × (x.done ≡ 2) × (x.registers.items ≡ []))
 
 -- only of what comes next something may be done
 abbrev pub IsBegun : List WorkCells → List Turn → Processor → Type 0
 IsBegun entries [] x = IsIdle x
 IsBegun entries (sets word number ∷ rest) x = IsIdle x
 IsBegun entries (waits word on wanted ∷ rest) x = IsIdle x
-IsBegun entries (runs place i ∷ rest) x = (cells : WorkCells) → slice_get entries (i.statement - 1) ≡ Some cells → IsRunning cells x
+IsBegun entries (runs place i ∷ rest) x =
+    (cells : WorkCells) → slice_get entries (i.statement - 1) ≡ Some cells → IsRunning cells x
 IsBegun entries (closes place k ∷ rest) x = IsClosing k x
 
 -- each access of an instance that a turn runs is in range
@@ -92,7 +97,8 @@ pub record Suffix {X : Type 0} (all left : List X) : Type 0 where
   pub is : all ≡ front ++ left
 
 -- what processor p keeps: its turns are the plan's, what is left ends what it does, its registers are those of what has begun, and there is room for the registers of any
-pub record IsKept (style : Style) (tree : Tree) (plan : Plan) (entries : List WorkCells) (p : ℕ) (x : Processor) : Type 0 where
+pub record IsKept (style : Style) (tree : Tree) (plan : Plan) (entries : List WorkCells) (p : ℕ)
+    (x : Processor) : Type 0 where
   pub sound : AreSound x.turns
   pub program : turns_tree x.turns ≡ tree
   pub plan_is : turns_plan x.turns ≡ plan
@@ -103,7 +109,8 @@ pub record IsKept (style : Style) (tree : Tree) (plan : Plan) (entries : List Wo
   pub begun : IsBegun entries (turns_left x.turns) x
   pub inside : list_all (is_turn_inside tree) (turns_left x.turns) ≡ true
   pub own_cells : length x.own ≡ 32
-  pub room : (n : ℕ) (cells : WorkCells) → slice_get entries n ≡ Some cells → widths cells.loads.items ≤ vec_capacity x.registers
+  pub room : (n : ℕ) (cells : WorkCells) → slice_get entries n ≡ Some cells
+      → widths cells.loads.items ≤ vec_capacity x.registers
   pub room_to_close : 1 ≤ vec_capacity x.registers
 
 -- behind a look at what comes next: the same is left, and all else is as it was
@@ -127,13 +134,15 @@ pub record PassesTurn (x y : Processor) (t : Turn) : Type 0 where
   pub room : vec_capacity x.registers ≤ vec_capacity y.registers
 
 -- a processor at its first turn, with room for so many registers
-pub record IsFresh (style : Style) (tree : Tree) (plan : Plan) (size p : ℕ) (x : Processor) : Type 0 where
+pub record IsFresh (style : Style) (tree : Tree) (plan : Plan) (size p : ℕ) (x : Processor) :
+    Type 0 where
   pub sound : AreSound x.turns
   pub program : turns_tree x.turns ≡ tree
   pub plan_is : turns_plan x.turns ≡ plan
   pub processor : turns_processor x.turns ≡ p
   pub style_is : turns_style x.turns ≡ style
-  pub turns : turns_left x.turns ≡ turns_by style tree plan p first_standing (counter_turns tree plan p 1 (phases tree plan.cut.marks))
+  pub turns : turns_left x.turns ≡ turns_by style tree plan p first_standing
+      (counter_turns tree plan p 1 (phases tree plan.cut.marks))
   pub none_found : x.found ≡ None
   pub idle : IsIdle x
   pub counter : x.counter ≡ 0
@@ -142,4 +151,5 @@ pub record IsFresh (style : Style) (tree : Tree) (plan : Plan) (size p : ℕ) (x
   pub room : size ≤ vec_capacity x.registers
 
 abbrev pub AreFresh : Style → Tree → Plan → ℕ → List Processor → Type 0
-AreFresh style tree plan size processors = (p : ℕ) (d : Processor) → p < length processors → IsFresh style tree plan size p (slice_index_or processors p d)
+AreFresh style tree plan size processors = (p : ℕ) (d : Processor) → p < length processors
+    → IsFresh style tree plan size p (slice_index_or processors p d)

@@ -33,5 +33,11 @@ pub record RoundTo (m : Machine) (shared : ℕ) (from now : State) (p : ℕ) (an
 -- a job of the timeline is that of the instance which as many stand in front of, and each of that instance's loads, but of a sum scalar of its phase, finds in the cell of processor p, where it comes next, what the sequential program's memory has there in front of the instance
 abbrev pub FindsSequential : Style → Tree → Plan → State → ℕ → ℕ → Job → Type 0
 FindsSequential style tree plan s p place j =
-    (x : Execution) × (j ≡ job_under tree plan x) × (slice_get (instances tree) (instances_in_front style tree plan place) ≡ Some x.instance) × ((c : ℕ) → Contains (loads_of tree x.instance) c → (own_of tree plan x.place).is_sum c ≡ false
-    → next_act (machine_by style tree plan) s p ≡ Some (load place (own_cell (own_of tree plan x.place) p c)) → cell_value s.memory (own_cell (own_of tree plan x.place) p c) ≡ cell_value (memory_before tree (instances_in_front style tree plan place)) c)
+    (x : Execution) × (j ≡ job_under tree plan x)
+    × (slice_get (instances tree) (instances_in_front style tree plan place) ≡ Some x.instance)
+    × ((c : ℕ) → Contains (loads_of tree x.instance) c
+    → (own_of tree plan x.place).is_sum c ≡ false
+    → next_act (machine_by style tree plan) s p
+    ≡ Some (load place (own_cell (own_of tree plan x.place) p c))
+    → cell_value s.memory (own_cell (own_of tree plan x.place) p c)
+    ≡ cell_value (memory_before tree (instances_in_front style tree plan place)) c)

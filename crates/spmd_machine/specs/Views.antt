@@ -26,13 +26,24 @@ pub record MachineView : Type 0 where
 abbrev pub state_code : Coded State
 state_code =
     code_by (List ℕ × (List (List ℤ) × (List ℕ × (List ℕ × (List ℤ × List ℕ)))))
-    (coded× (coded_list coded_ℕ) (coded× (coded_list (coded_list coded_ℤ)) (coded× (coded_list coded_ℕ) (coded× (coded_list coded_ℕ) (coded× (coded_list coded_ℤ) (coded_list coded_ℕ))))))
+    (coded× (coded_list coded_ℕ) (coded× (coded_list (coded_list coded_ℤ))
+    (coded× (coded_list coded_ℕ) (coded× (coded_list coded_ℕ)
+    (coded× (coded_list coded_ℤ) (coded_list coded_ℕ))))))
     (λ s. (s.positions, (s.registers, (s.counters, (s.signals, (s.memory, s.output))))))
-    (λ x. record { positions = x.0; registers = x.1.0; counters = x.1.1.0; signals = x.1.1.1.0; memory = x.1.1.1.1.0; output = x.1.1.1.1.1 }) (λ _. refl)
+    (λ x. record {
+      positions = x.0;
+      registers = x.1.0;
+      counters = x.1.1.0;
+      signals = x.1.1.1.0;
+      memory = x.1.1.1.1.0;
+      output = x.1.1.1.1.1;
+    }) (λ _. refl)
 
 abbrev pub machine_code : Coded MachineView
 machine_code =
-    code_by (Program × (Plan × (Style × State))) (coded× programs.the_row.coded (coded× plans.the_row.coded (coded× styles.the_row.coded state_code))) (λ m. (m.program, (m.plan, (m.style, m.state))))
+    code_by (Program × (Plan × (Style × State)))
+    (coded× programs.the_row.coded (coded× plans.the_row.coded
+    (coded× styles.the_row.coded state_code))) (λ m. (m.program, (m.plan, (m.style, m.state))))
     (λ x. record { program = x.0; plan = x.1.0; style = x.1.1.0; state = x.1.1.1 }) (λ _. refl)
 
 abbrev pub tree_at : MachineView → Tree

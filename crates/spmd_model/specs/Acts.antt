@@ -13,7 +13,8 @@ pub data Act : Type 0 where
 
 -- at a boundary: a post, where others await the processor, and then an await of each that it waits for
 abbrev pub boundary_acts : ℕ → Word → ℕ → Bool → List ℕ → List Act
-boundary_acts p word number posts awaited = (if posts then post word number ∷ [] else []) ++ map (λ q. await word q number) awaited
+boundary_acts p word number posts awaited =
+    (if posts then post word number ∷ [] else []) ++ map (λ q. await word q number) awaited
 
 -- a job's loads in their order, and then its store, its add or its PRINT
 abbrev pub last_act : ℕ → Option ℕ → Bool → Act
@@ -25,7 +26,8 @@ abbrev pub job_acts : ℕ → Job → List Act
 job_acts place j = map (load place) j.loads ++ last_act place j.store j.adds ∷ []
 
 abbrev pub moment_acts : ℕ → ℕ → Moment → List Act
-moment_acts p place (boundary word number posts awaits) = boundary_acts p word number (posts p) (awaits p)
+moment_acts p place (boundary word number posts awaits) =
+    boundary_acts p word number (posts p) (awaits p)
 moment_acts p place (job j) = if j.owner == p then job_acts place j else []
 
 -- the acts of processor p along moments of which the first has this place

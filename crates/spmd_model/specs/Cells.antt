@@ -15,4 +15,5 @@ changed true old v = plus old v
 -- a memory behind a job
 abbrev pub with_change : List ℤ → Option ℕ → Bool → ℤ → List ℤ
 with_change memory None adds v = memory
-with_change memory (Some cell) adds v = slice_set memory cell (changed adds (cell_value memory cell) v)
+with_change memory (Some cell) adds v =
+    slice_set memory cell (changed adds (cell_value memory cell) v)

@@ -34,7 +34,8 @@ deed_of m (print place) = printing (line_by (slice_get m.timeline place))
 
 -- the deeds of a boundary and of a job
 abbrev pub boundary_deeds : Word → ℕ → Bool → List ℕ → List Deed
-boundary_deeds word number posts awaited = (if posts then posting word number ∷ [] else []) ++ map (λ q. awaiting word q number) awaited
+boundary_deeds word number posts awaited =
+    (if posts then posting word number ∷ [] else []) ++ map (λ q. awaiting word q number) awaited
 
 abbrev pub last_deed : Option ℕ → Bool → (List ℤ → ℤ) → (List ℤ → List ℕ) → Deed
 last_deed (Some cell) false value line = storing cell value
@@ -51,7 +52,8 @@ moment_deeds p (job j) = if j.owner == p then job_deeds j else []
 -- ---- the same of a program under a plan, phase by phase
 
 abbrev pub instance_deeds : Tree → Instance → List Deed
-instance_deeds tree i = map loading (loads_of tree i) ++ last_deed (store_of tree i) false (assigned_value tree i) (line_of tree i) ∷ []
+instance_deeds tree i = map loading (loads_of tree i)
+    ++ last_deed (store_of tree i) false (assigned_value tree i) (line_of tree i) ∷ []
 
 -- the instances of a phase that a processor owns by an anchor; a phase without one is processor 0's
 abbrev pub owned_by : Tree → Option Anchor → ℕ → ℕ → Visit → List Instance
@@ -60,13 +62,16 @@ owned_by tree (Some a) workers p v = own_instances (param_values tree) a workers
 
 abbrev pub phase_deeds : Tree → Plan → ℕ → ℕ → Visit → List Deed
 phase_deeds tree plan p e v =
-    boundary_deeds counter (e - 1) (posts_at tree plan p v.place v.loops) (waits_for tree plan p v.place v.loops)
-    ++ flat_map (instance_deeds tree) (owned_by tree (slice_get plan.anchors (v.place - 1)) plan.workers p v)
+    boundary_deeds counter (e - 1) (posts_at tree plan p v.place v.loops)
+    (waits_for tree plan p v.place v.loops)
+    ++ flat_map (instance_deeds tree) (owned_by tree (slice_get plan.anchors (v.place - 1))
+    plan.workers p v)
 
 -- of phases of which the first has this number
 abbrev pub deeds_from : Tree → Plan → ℕ → ℕ → List Visit → List Deed
 deeds_from tree plan p e [] = []
-deeds_from tree plan p e (v ∷ rest) = phase_deeds tree plan p e v ++ deeds_from tree plan p (suc e) rest
+deeds_from tree plan p e (v ∷ rest) =
+    phase_deeds tree plan p e v ++ deeds_from tree plan p (suc e) rest
 
 -- ---- what a deed does to a state
 
@@ -81,7 +86,19 @@ can_do s (printing line) = true
 abbrev pub did : State → ℕ → Deed → State
 did s p (posting word number) = with_words s word (slice_set (words_of s word) p number)
 did s p (awaiting word on wanted) = s
-did s p (loading cell) = record s { registers = slice_set s.registers p (registers_of s p ++ cell_value s.memory cell ∷ []) }
-did s p (storing cell value) = record s { registers = slice_set s.registers p []; memory = slice_set s.memory cell (value (registers_of s p)) }
-did s p (adding cell value) = record s { registers = slice_set s.registers p []; memory = slice_set s.memory cell (plus (cell_value s.memory cell) (value (registers_of s p))) }
-did s p (printing line) = record s { registers = slice_set s.registers p []; output = s.output ++ line (registers_of s p) }
+did s p (loading cell) = record s {
+  registers = slice_set s.registers p
+      (registers_of s p ++ cell_value s.memory cell ∷ []);
+}
+did s p (storing cell value) = record s {
+  registers = slice_set s.registers p [];
+  memory = slice_set s.memory cell (value (registers_of s p));
+}
+did s p (adding cell value) = record s {
+  registers = slice_set s.registers p [];
+  memory = slice_set s.memory cell (plus (cell_value s.memory cell) (value (registers_of s p)));
+}
+did s p (printing line) = record s {
+  registers = slice_set s.registers p [];
+  output = s.output ++ line (registers_of s p);
+}

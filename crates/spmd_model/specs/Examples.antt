@@ -11,17 +11,35 @@ use Rattle.spmd_model.specs.Rounds.{round_boundary}
 -- ---- A(1) = 7 by processor 0 and A(2) = 8 by processor 1; and then A(1) = A(2) by processor 0, which waits for processor 1
 
 abbrev pub fixed : ℤ → ℕ → ℕ → Job
-fixed v owner cell = record { owner = owner; loads = []; store = Some cell; adds = false; assigned = λ given. v; line = λ given. []; counts = 1 }
+fixed v owner cell = record {
+  owner = owner;
+  loads = [];
+  store = Some cell;
+  adds = false;
+  assigned = λ given. v;
+  line = λ given. [];
+  counts = 1;
+}
 
 -- it changes a cell by what another one holds
 abbrev pub from_cell : Bool → ℕ → ℕ → ℕ → Job
-from_cell adds owner loaded cell = record { owner = owner; loads = loaded ∷ []; store = Some cell; adds = adds; assigned = λ given. slice_index_or given 0 (pos 0); line = λ given. []; counts = 1 }
+from_cell adds owner loaded cell = record {
+  owner = owner;
+  loads = loaded ∷ [];
+  store = Some cell;
+  adds = adds;
+  assigned = λ given. slice_index_or given 0 (pos 0);
+  line = λ given. [];
+  counts = 1;
+}
 
 abbrev two_phases : (ℕ → List ℕ) → Machine
 two_phases awaits = record {
   workers = 2;
   cells = 2;
-  timeline = boundary counter 0 (λ q. false) (λ p. []) ∷ job (fixed (pos 7) 0 0) ∷ job (fixed (pos 8) 1 1) ∷ boundary counter 1 (λ q. q == 1) awaits ∷ job (from_cell false 0 1 0) ∷ [];
+  timeline = boundary counter 0 (λ q. false) (λ p. []) ∷ job (fixed (pos 7) 0 0)
+      ∷ job (fixed (pos 8) 1 1) ∷ boundary counter 1 (λ q. q == 1) awaits
+      ∷ job (from_cell false 0 1 0) ∷ [];
 }
 
 -- with that wait, and without any
@@ -70,14 +88,16 @@ counter_at-example = refl
 -- ---- sums: processor p has the own cell 1 + p, adds it to the shared cell 0, and sets it to 0
 
 abbrev closings : Bool → Bool → ℕ → List Moment
-closings adds clears p = job (from_cell adds p (p + 1) 0) ∷ (if clears then job (fixed (pos 0) p (p + 1)) ∷ [] else [])
+closings adds clears p =
+    job (from_cell adds p (p + 1) 0) ∷ (if clears then job (fixed (pos 0) p (p + 1)) ∷ [] else [])
 
 -- two phases, of which only the first assigns: 3 by processor 0, 4 by processor 1
 abbrev sums : Bool → Bool → Machine
 sums adds clears = record {
   workers = 2;
   cells = 3;
-  timeline = job (fixed (pos 3) 0 1) ∷ job (fixed (pos 4) 1 2) ∷ (closings adds clears 0 ++ closings adds clears 1 ++ closings adds clears 1);
+  timeline = job (fixed (pos 3) 0 1) ∷ job (fixed (pos 4) 1 2)
+      ∷ (closings adds clears 0 ++ closings adds clears 1 ++ closings adds clears 1);
 }
 
 pub acts_of-sums : acts_of (sums true true) 0 ≡ store 0 1 ∷ load 2 1 ∷ add 2 0 ∷ store 3 1 ∷ []
@@ -88,7 +108,8 @@ unfolding int_wrap
 memory_at_end-sums = refl
 
 -- in whatever order they add
-pub run_of-sums : (run_of (sums true true) (1 ∷ 1 ∷ 0 ∷ 0 ∷ 0 ∷ 1 ∷ 1 ∷ 1 ∷ 1 ∷ 1 ∷ 0 ∷ [])).memory ≡ pos 7 ∷ pos 0 ∷ pos 0 ∷ []
+pub run_of-sums : (run_of (sums true true) (1 ∷ 1 ∷ 0 ∷ 0 ∷ 0 ∷ 1 ∷ 1 ∷ 1 ∷ 1 ∷ 1 ∷ 0 ∷ [])).memory
+    ≡ pos 7 ∷ pos 0 ∷ pos 0 ∷ []
 unfolding int_wrap
 run_of-sums = refl
 
@@ -103,7 +124,12 @@ memory_at_end-kept = refl
 -- ---- a barrier by signals, of so many rounds from this number on
 
 abbrev by_signals : ℕ → ℕ → Machine
-by_signals first rounds = record { workers = 3; cells = 0; timeline = round_boundary 3 first 0 ∷ (if rounds == 2 then round_boundary 3 first 1 ∷ [] else []) }
+by_signals first rounds = record {
+  workers = 3;
+  cells = 0;
+  timeline = round_boundary 3 first 0 ∷ (if rounds == 2 then round_boundary 3 first 1 ∷ []
+      else []);
+}
 
 -- of two rounds, processor 1 passes the first by processor 0, and stays in the second, where it awaits processor 2
 pub run_of-rounds : (run_of (by_signals 1 2) (0 ∷ 1 ∷ 1 ∷ 1 ∷ 1 ∷ [])).positions ≡ 1 ∷ 3 ∷ 0 ∷ []

@@ -24,8 +24,10 @@ stores_to (Some c) cell = c == cell
 -- what a cell holds behind the jobs that are done, in their order, of moments of which the first has this place, where it held v
 abbrev pub last_value_from : Machine → (ℕ → Job → Bool) → ℕ → ℕ → List Moment → ℤ → ℤ
 last_value_from m done cell place [] v = v
-last_value_from m done cell place (boundary word number posts awaits ∷ rest) v = last_value_from m done cell (suc place) rest v
-last_value_from m done cell place (job j ∷ rest) v = last_value_from m done cell (suc place) rest (if stores_to j.store cell && done place j then changed j.adds v (value_at m place) else v)
+last_value_from m done cell place (boundary word number posts awaits ∷ rest) v =
+    last_value_from m done cell (suc place) rest v
+last_value_from m done cell place (job j ∷ rest) v = last_value_from m done cell (suc place) rest
+    (if stores_to j.store cell && done place j then changed j.adds v (value_at m place) else v)
 
 abbrev pub last_value_where : Machine → (ℕ → Job → Bool) → ℕ → ℤ
 last_value_where m done cell = last_value_from m done cell 0 m.timeline (pos 0)
@@ -41,7 +43,8 @@ pub record IsLawful (m : Machine) (cells : List ℤ) (at : ℕ → ℕ) : Type 0
   pub within : (p : ℕ) → p < m.workers → at p ≤ length (acts_of m p)
   pub size : length cells ≡ m.cells
   pub holds : (cell : ℕ) → cell < m.cells → cell_value cells cell ≡ last_value m at cell
-  pub awaited : (w : Word) (p i q n : ℕ) → p < m.workers → i < at p → act_at m p i ≡ Some (await w q n) → (n ≡ 0) ⊎ IsPosted (acts_of m q) w n (at q)
+  pub awaited : (w : Word) (p i q n : ℕ) → p < m.workers → i < at p
+      → act_at m p i ≡ Some (await w q n) → (n ≡ 0) ⊎ IsPosted (acts_of m q) w n (at q)
 
 -- places of which p's is another
 abbrev pub put : (ℕ → ℕ) → ℕ → ℕ → ℕ → ℕ

@@ -20,7 +20,9 @@ use Rattle.spmd_model.specs.declared.style.Style.{Style}
 
 -- an instance of processor p
 abbrev pub own_deeds : Tree → Own → ℕ → Instance → List Deed
-own_deeds tree o p i = map loading (map (own_cell o p) (loads_of tree i)) ++ last_deed (option_map (own_cell o p) (store_of tree i)) false (assigned_value tree i) (line_of tree i) ∷ []
+own_deeds tree o p i = map loading (map (own_cell o p) (loads_of tree i))
+    ++ last_deed (option_map (own_cell o p) (store_of tree i)) false (assigned_value tree i)
+    (line_of tree i) ∷ []
 
 -- one cell is loaded, and stored to another one, or added
 abbrev pub keeping_deeds : ℕ → ℕ → List Deed
@@ -40,27 +42,36 @@ totalled_by o c p true = totalling_deeds (own_cell o p c) c
 
 abbrev pub closing_deeds : Tree → Plan → ℕ → Visit → List Deed
 closing_deeds tree plan p v =
-    flat_map (λ s. kept_by (own_of tree plan v.place) (first_cell tree s) p (last_owner tree plan v)) (own_loop tree plan v.place).privates
-    ++ flat_map (λ s. totalled_by (own_of tree plan v.place) (first_cell tree s) p (has_stored tree plan v (first_cell tree s) p)) (own_loop tree plan v.place).sums
+    flat_map (λ s. kept_by (own_of tree plan v.place) (first_cell tree s) p
+    (last_owner tree plan v)) (own_loop tree plan v.place).privates
+    ++ flat_map (λ s. totalled_by (own_of tree plan v.place) (first_cell tree s) p
+    (has_stored tree plan v (first_cell tree s) p)) (own_loop tree plan v.place).sums
 
 -- in a round of a barrier, and in front of a phase
 abbrev pub round_deeds : ℕ → ℕ → ℕ → ℕ → List Deed
-round_deeds workers p first r = boundary_deeds signal (first + r) true (awaited_in_round workers r p ∷ [])
+round_deeds workers p first r =
+    boundary_deeds signal (first + r) true (awaited_in_round workers r p ∷ [])
 
 abbrev pub front_deeds : Style → Tree → Plan → ℕ → ℕ → ℕ → Visit → List Deed
 front_deeds style tree plan p e passed v =
-    if is_by_signals style plan v then flat_map (round_deeds plan.workers p (passed * rounds_of plan.workers + 1)) (range_with_len 0 (rounds_of plan.workers))
-    else boundary_deeds counter (e - 1) (posts_at tree plan p v.place v.loops) (waits_for tree plan p v.place v.loops)
+    if is_by_signals style plan v
+    then flat_map (round_deeds plan.workers p (passed * rounds_of plan.workers + 1))
+    (range_with_len 0 (rounds_of plan.workers))
+    else boundary_deeds counter (e - 1) (posts_at tree plan p v.place v.loops)
+    (waits_for tree plan p v.place v.loops)
 
 abbrev pub part_deeds : Style → Tree → Plan → ℕ → ℕ → ℕ → Visit → List Deed
 part_deeds style tree plan p e passed v =
     front_deeds style tree plan p e passed v
-    ++ (flat_map (own_deeds tree (own_of tree plan v.place) p) (owned_by tree (slice_get plan.anchors (v.place - 1)) plan.workers p v) ++ closing_deeds tree plan p v)
+    ++ (flat_map (own_deeds tree (own_of tree plan v.place) p)
+    (owned_by tree (slice_get plan.anchors (v.place - 1)) plan.workers p v)
+    ++ closing_deeds tree plan p v)
 
 -- in phases of which the first has this number, behind so many barriers by signals
 abbrev pub deeds_by : Style → Tree → Plan → ℕ → ℕ → ℕ → List Visit → List Deed
 deeds_by style tree plan p e passed [] = []
-deeds_by style tree plan p e passed (v ∷ rest) = part_deeds style tree plan p e passed v ++ deeds_by style tree plan p (suc e) (passed + signal_barriers style plan v) rest
+deeds_by style tree plan p e passed (v ∷ rest) = part_deeds style tree plan p e passed v
+    ++ deeds_by style tree plan p (suc e) (passed + signal_barriers style plan v) rest
 
 -- the loop of a static phase has no own scalars
 pub record HasNoOwn (tree : Tree) (plan : Plan) (place : ℕ) : Type 0 where

@@ -42,7 +42,8 @@ signal_barriers style plan v = if is_by_signals style plan v then 1 else 0
 -- in front of the phase with this number, behind so many barriers by signals
 abbrev pub boundaries_by : Style → Tree → Plan → ℕ → ℕ → Visit → List Moment
 boundaries_by style tree plan e passed v =
-    if is_by_signals style plan v then rounds_in plan.workers (passed * rounds_of plan.workers + 1) (rounds_of plan.workers)
+    if is_by_signals style plan v
+    then rounds_in plan.workers (passed * rounds_of plan.workers + 1) (rounds_of plan.workers)
     else boundary_of tree plan e v ∷ []
 
 -- ---- phases
@@ -56,7 +57,9 @@ abbrev pub moments_of : Part → List Moment
 moments_of part = part.front ++ map job part.jobs
 
 abbrev pub instance_jobs : Tree → Plan → ℕ → Visit → List Job
-instance_jobs tree plan e v = map (λ (i : Instance). job_under tree plan (record { phase = e; place = v.place; instance = i })) (visit_instances (param_values tree) v)
+instance_jobs tree plan e v = map (λ (i : Instance).
+    job_under tree plan (record { phase = e; place = v.place; instance = i }))
+    (visit_instances (param_values tree) v)
 
 abbrev pub part_of : Style → Tree → Plan → ℕ → ℕ → Visit → Part
 part_of style tree plan e passed v = record {
@@ -67,7 +70,8 @@ part_of style tree plan e passed v = record {
 -- phases of which the first has this number, behind so many barriers by signals
 abbrev pub parts_from : Style → Tree → Plan → ℕ → ℕ → List Visit → List Part
 parts_from style tree plan e passed [] = []
-parts_from style tree plan e passed (v ∷ rest) = part_of style tree plan e passed v ∷ parts_from style tree plan (suc e) (passed + signal_barriers style plan v) rest
+parts_from style tree plan e passed (v ∷ rest) = part_of style tree plan e passed v
+    ∷ parts_from style tree plan (suc e) (passed + signal_barriers style plan v) rest
 
 abbrev pub parts_by : Style → Tree → Plan → List Part
 parts_by style tree plan = parts_from style tree plan 1 0 (phases tree plan.cut.marks)
@@ -85,7 +89,11 @@ cells_under tree plan = cell_count tree + 32 * plan.workers
 
 -- the machine of a program under a plan, in a style
 abbrev pub machine_by : Style → Tree → Plan → Machine
-machine_by style tree plan = record { workers = plan.workers; cells = cells_under tree plan; timeline = timeline_by style tree plan }
+machine_by style tree plan = record {
+  workers = plan.workers;
+  cells = cells_under tree plan;
+  timeline = timeline_by style tree plan;
+}
 
 -- how many instances stand in front of a place: in front of an instance, its number, from 0
 abbrev pub instances_in : Moment → ℕ
@@ -93,4 +101,5 @@ instances_in (boundary word number posts awaits) = 0
 instances_in (job j) = j.counts
 
 abbrev pub instances_in_front : Style → Tree → Plan → ℕ → ℕ
-instances_in_front style tree plan place = sum_by instances_in (take place (timeline_by style tree plan))
+instances_in_front style tree plan place =
+    sum_by instances_in (take place (timeline_by style tree plan))

@@ -36,7 +36,8 @@ printed_by style tree plan p n = printed_at (machine_by style tree plan) p n
 
 -- lawful cells
 unfoldable pub AreLawfulBy : Style → Tree → Plan → List ℤ → (ℕ → ℕ) → Type 0
-AreLawfulBy style tree plan cells at = AreLawful (machine_by style tree plan) (cell_count tree) cells at
+AreLawfulBy style tree plan cells at =
+    AreLawful (machine_by style tree plan) (cell_count tree) cells at
 
 -- by signals no counter is posted at a barrier, so that nothing is an arrival there
 abbrev pub protocol_by : Style → Tree → Plan → Protocol
@@ -56,4 +57,5 @@ protocol_by style tree plan = record {
 
 -- cells that all share, at these places, are those of a state of the plan's machine in a style
 abbrev pub AreOfStateBy : Style → Tree → Plan → List ℤ → (ℕ → ℕ) → State → Type 0
-AreOfStateBy style tree plan cells at s = AreIn (machine_by style tree plan) (cell_count tree) cells at s
+AreOfStateBy style tree plan cells at s =
+    AreIn (machine_by style tree plan) (cell_count tree) cells at s

@@ -24,4 +24,5 @@ job_of tree plan x = record {
 
 -- in front of phase number e, from 1, the number e - 1 is posted on the counters
 abbrev pub boundary_of : Tree → Plan → ℕ → Visit → Moment
-boundary_of tree plan e v = boundary counter (e - 1) (λ q. posts_at tree plan q v.place v.loops) (λ p. waits_for tree plan p v.place v.loops)
+boundary_of tree plan e v = boundary counter (e - 1) (λ q. posts_at tree plan q v.place v.loops)
+    (λ p. waits_for tree plan p v.place v.loops)

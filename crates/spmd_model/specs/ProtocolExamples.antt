@@ -5,7 +5,8 @@ use Rattle.spmd_model.specs.Acts.{Act, post, await, load, store, add, print}
 use Rattle.spmd_model.specs.Protocols.{arrived, settled, shown}
 
 abbrev acts : List Act
-acts = post counter 1 ∷ await counter 1 1 ∷ print 4 ∷ store 5 2 ∷ load 6 0 ∷ add 6 1 ∷ post signal 3 ∷ post counter 2 ∷ []
+acts = post counter 1 ∷ await counter 1 1 ∷ print 4 ∷ store 5 2 ∷ load 6 0 ∷ add 6 1 ∷ post signal 3
+    ∷ post counter 2 ∷ []
 
 -- the PRINT and the store of cell 2 are passed, the load of cell 0 isn't
 pub settled-example : settled 2 acts 2 ≡ 4

@@ -18,13 +18,15 @@ pub record HasCome (m : Machine) (s : State) : Type 0 where
   pub count : length s.positions ≡ m.workers
   pub as_many : (w : Word) → length (words_of s w) ≡ m.workers
   pub within : (p : ℕ) → p < m.workers → slice_index s.positions p ≤ length (acts_of m p)
-  pub counters : (w : Word) (p : ℕ) → p < m.workers → slice_index (words_of s w) p ≡ counter_at m w p (slice_index s.positions p)
+  pub counters : (w : Word) (p : ℕ) → p < m.workers
+      → slice_index (words_of s w) p ≡ counter_at m w p (slice_index s.positions p)
 
 -- cells are lawful, registers and output are those of the sequential program
 pub record IsSequential (m : Machine) (s : State) : Type 0 where
   pub lawful : IsLawful m s.memory (positions_of s)
   pub as_many : length s.registers ≡ m.workers
-  pub registers : (p : ℕ) → p < m.workers → registers_of s p ≡ registers_at m p (slice_index s.positions p)
+  pub registers : (p : ℕ) → p < m.workers → registers_of s p
+      ≡ registers_at m p (slice_index s.positions p)
   pub output : s.output ≡ printed_at m 0 (slice_index s.positions 0)
 
 -- some processor's next act is possible

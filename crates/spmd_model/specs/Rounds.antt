@@ -8,11 +8,13 @@ abbrev pub awaited_in_round : ℕ → ℕ → ℕ → ℕ
 awaited_in_round workers r p = (p + workers - 2 ^ r) % workers
 
 abbrev pub round_boundary : ℕ → ℕ → ℕ → Moment
-round_boundary workers first r = boundary signal (first + r) (λ q. true) (λ p. awaited_in_round workers r p ∷ [])
+round_boundary workers first r =
+    boundary signal (first + r) (λ q. true) (λ p. awaited_in_round workers r p ∷ [])
 
 -- so many rounds from this place of the timeline on, whose first number this is
 abbrev pub AreRounds : Machine → ℕ → ℕ → ℕ → Type 0
-AreRounds m place first rounds = (r : ℕ) → r < rounds → slice_get m.timeline (place + r) ≡ Some (round_boundary m.workers first r)
+AreRounds m place first rounds = (r : ℕ) → r < rounds
+    → slice_get m.timeline (place + r) ≡ Some (round_boundary m.workers first r)
 
 -- as many rounds as reach every processor, and no more of them
 pub record AreEnough (workers rounds : ℕ) : Type 0 where
@@ -22,7 +24,8 @@ pub record AreEnough (workers rounds : ℕ) : Type 0 where
 -- the least number of rounds that reach so many processors, at most 64: from this one on, of so many that are tried
 abbrev pub rounds_from : ℕ → ℕ → ℕ → ℕ
 rounds_from zero workers r = r
-rounds_from (suc more) workers r = if nat_le workers (2 ^ r) then r else rounds_from more workers (suc r)
+rounds_from (suc more) workers r =
+    if nat_le workers (2 ^ r) then r else rounds_from more workers (suc r)
 
 abbrev pub rounds_of : ℕ → ℕ
 rounds_of workers = rounds_from 6 workers 0
@@ -35,5 +38,6 @@ pub rounds_of-example : map rounds_of (1 ∷ 2 ∷ 3 ∷ 5 ∷ 64 ∷ []) ≡ 0 
 rounds_of-example = refl
 
 -- of five processors, processor 0 awaits 4, 3 and 1
-pub awaited_in_round-example : map (λ r. awaited_in_round 5 r 0) (range_with_len 0 3) ≡ 4 ∷ 3 ∷ 1 ∷ []
+pub awaited_in_round-example : map (λ r. awaited_in_round 5 r 0) (range_with_len 0 3)
+    ≡ 4 ∷ 3 ∷ 1 ∷ []
 awaited_in_round-example = refl

@@ -9,7 +9,8 @@ use Rattle.spmd_model.specs.States.{assigned_by}
 -- memory behind a moment
 abbrev pub memory_behind : List ℤ → Moment → List ℤ
 memory_behind memory (boundary word number posts awaits) = memory
-memory_behind memory (job j) = with_change memory j.store j.adds (j.assigned (map (cell_value memory) j.loads))
+memory_behind memory (job j) =
+    with_change memory j.store j.adds (j.assigned (map (cell_value memory) j.loads))
 
 -- memory in front of the moment at this place of the timeline, from 0, and behind the last one
 abbrev pub memory_at : Machine → ℕ → List ℤ

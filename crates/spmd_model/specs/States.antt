@@ -70,9 +70,21 @@ moved s p = record s { positions = slice_set s.positions p (slice_index s.positi
 abbrev pub acted : Machine → State → ℕ → Act → State
 acted m s p (post word number) = with_words s word (slice_set (words_of s word) p number)
 acted m s p (await word on wanted) = s
-acted m s p (load place cell) = record s { registers = slice_set s.registers p (registers_of s p ++ cell_value s.memory cell ∷ []) }
+acted m s p (load place cell) = record s
+    { registers = slice_set s.registers p (registers_of s p ++ cell_value s.memory cell ∷ []) }
 acted m s p (store place cell) =
-    record s { registers = slice_set s.registers p []; memory = slice_set s.memory cell (assigned_by (slice_get m.timeline place) (registers_of s p)) }
+    record s {
+      registers = slice_set s.registers p [];
+      memory = slice_set s.memory cell (assigned_by (slice_get m.timeline place)
+          (registers_of s p));
+    }
 acted m s p (add place cell) =
-    record s { registers = slice_set s.registers p []; memory = slice_set s.memory cell (plus (cell_value s.memory cell) (assigned_by (slice_get m.timeline place) (registers_of s p))) }
-acted m s p (print place) = record s { registers = slice_set s.registers p []; output = s.output ++ line_by (slice_get m.timeline place) (registers_of s p) }
+    record s {
+      registers = slice_set s.registers p [];
+      memory = slice_set s.memory cell (plus (cell_value s.memory cell)
+          (assigned_by (slice_get m.timeline place) (registers_of s p)));
+    }
+acted m s p (print place) = record s {
+  registers = slice_set s.registers p [];
+  output = s.output ++ line_by (slice_get m.timeline place) (registers_of s p);
+}

@@ -7,7 +7,8 @@ use Rattle.spmd_model.specs.OwnPhases.{Own, put}
 -- who stored a private last, behind a job
 abbrev pub kept_by : Own → (ℕ → Option ℕ) → Option ℕ → ℕ → ℕ → Option ℕ
 kept_by o last None p = last
-kept_by o last (Some c) p = if is_some (o.slot c) && not (o.is_sum c) then put last c (Some p) else last
+kept_by o last (Some c) p =
+    if is_some (o.slot c) && not (o.is_sum c) then put last c (Some p) else last
 
 abbrev pub last_behind : Own → (ℕ → Option ℕ) → Job → ℕ → Option ℕ
 last_behind o last j = kept_by o last j.store j.owner

@@ -24,7 +24,16 @@ pub record MemorySink : Type 0 where
 -- the sink before its first call
 abbrev pub fresh : ℕ → ℕ → List ℕ → List ℕ → MemorySink
 fresh room piece failing empty =
-    record { written = []; room = room; piece = piece; failing = failing; empty = empty; calls = 0; faults = 0; empties = 0 }
+    record {
+      written = [];
+      room = room;
+      piece = piece;
+      failing = failing;
+      empty = empty;
+      calls = 0;
+      faults = 0;
+      empties = 0;
+    }
 
 -- the next call takes nothing, whatever room there is
 abbrev pub takes_nothing : MemorySink → Bool
@@ -32,7 +41,8 @@ takes_nothing s = list_any (λ call. call == raised s.calls) s.empty
 
 -- how many bytes the next call takes of so many
 abbrev pub taken : MemorySink → ℕ → ℕ
-taken s offered = if takes_nothing s then 0 else min (min s.piece offered) (s.room - length s.written)
+taken s offered =
+    if takes_nothing s then 0 else min (min s.piece offered) (s.room - length s.written)
 
 -- the sink behind a call that took the first n of these bytes
 abbrev pub written_on : MemorySink → ℕ → List ℕ → MemorySink

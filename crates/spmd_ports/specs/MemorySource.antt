@@ -16,7 +16,8 @@ pub record MemorySource : Type 0 where
 
 -- the source before its first call
 abbrev pub fresh : List ℕ → ℕ → List ℕ → MemorySource
-fresh bytes piece failing = record { left = bytes; piece = piece; failing = failing; calls = 0; faults = 0 }
+fresh bytes piece failing =
+    record { left = bytes; piece = piece; failing = failing; calls = 0; faults = 0 }
 
 -- how many bytes a call gives that has this much room
 abbrev pub given : MemorySource → ℕ → ℕ

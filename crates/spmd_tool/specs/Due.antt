@@ -66,17 +66,20 @@ first_wrong wanted = first_fault_from 1 (settings_of wanted)
 
 -- due with the first word that should be a setting and is none, or else with a source of too many bytes
 abbrev pub due_of_form : Wanted → List ℕ → Option Due
-due_of_form wanted bytes = option_or (option_map wrong_setting (first_wrong wanted)) (if nat_lt most_bytes (length bytes) then Some too_long else None)
+due_of_form wanted bytes = option_or (option_map wrong_setting (first_wrong wanted))
+    (if nat_lt most_bytes (length bytes) then Some too_long else None)
 
 -- Due for a request, from all bytes of its source.
 unfoldable pub IsDueFor : Wanted → List ℕ → Due → Type 0
-IsDueFor wanted bytes due = IsFirstOr (due_of_form wanted bytes) (answer.IsDueOf wanted (settings_in (settings_of wanted)) bytes) due
+IsDueFor wanted bytes due = IsFirstOr (due_of_form wanted bytes)
+    (answer.IsDueOf wanted (settings_in (settings_of wanted)) bytes) due
 
 -- What is due for words and bytes: help or the version, whose text is left open; the refusal of words that are none that is offered; or what is due for the request that they stand for.
 pub data IsDue (words : List Text) (bytes : List ℕ) (due : Due) : Type 0 where
   shown : (asks : asks_to_show words ≡ true) (status_is : due.status ≡ Done) → IsDue words bytes due
   faulty : (are : AreFaulty words) (due_is : due ≡ wrong_words words) → IsDue words bytes due
-  asked : (wanted : Wanted) (takes : Takes words wanted) (is_due : IsDueFor wanted (source_for wanted bytes) due) → IsDue words bytes due
+  asked : (wanted : Wanted) (takes : Takes words wanted)
+      (is_due : IsDueFor wanted (source_for wanted bytes) due) → IsDue words bytes due
 
 -- no plan is made for words: then one text is due, but for help and the version
 abbrev pub MakeNoPlan : List Text → Type 0
@@ -94,7 +97,8 @@ pub record ReadFor (words : List Text) (wanted : Wanted) : Type 0 where
 
 -- The words are faulty, or one of them that should be a setting is none.
 abbrev pub AreWrong : List Text → Type 0
-AreWrong words = AreFaulty words ⊎ ((wanted : Wanted) × (index : ℕ) × Takes words wanted × (first_wrong wanted ≡ Some index))
+AreWrong words = AreFaulty words ⊎ ((wanted : Wanted) × (index : ℕ) × Takes words wanted
+    × (first_wrong wanted ≡ Some index))
 
 -- the settings with which the source of a request is read
 abbrev pub all_settings : Wanted → List (Name × ℤ)
@@ -117,11 +121,13 @@ HasPlan (planned workers settings) tree bytes = ⊤
 HasPlan (bench workers points sweeps) tree bytes = ⊤
 HasPlan (run workers Made by settings) tree bytes = ⊤
 HasPlan (run workers Barrier by settings) tree bytes = ⊤
-HasPlan (run workers Given by settings) tree bytes = (plan : Plan) × IsTaken (Some workers) tree bytes plan
+HasPlan (run workers Given by settings) tree bytes =
+    (plan : Plan) × IsTaken (Some workers) tree bytes plan
 
 -- There is the receipt of a run by a plan, where it writes what is due for a request from these bytes of its source, and else none.
 abbrev pub HasReceiptFor : Wanted → List ℕ → Due → Option Receipt → Type 0
-HasReceiptFor wanted bytes due receipt = HasReceipt wanted (program_for wanted bytes) (behind_end bytes) due receipt
+HasReceiptFor wanted bytes due receipt =
+    HasReceipt wanted (program_for wanted bytes) (behind_end bytes) due receipt
 
 -- The bytes stand for a program that is within its limits and has its subscripts in range, where its named constants have the values of the request's settings; and what stands behind END may.
 pub record IsRunnable (wanted : Wanted) (bytes : List ℕ) : Type 0 where

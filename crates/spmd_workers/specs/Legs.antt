@@ -22,7 +22,9 @@ IsFurther old new = (new ≡ old) ⊎ ((old.position < new.position) × (new.mis
 -- of whose joins so many are answered: the post in front of a join is done only where the join is one of them
 abbrev pub AreAnswered : CellView → ℕ → Type 0
 AreAnswered v answered =
-    (n number : ℕ) → n < v.position → act_at (protocol_at v.home) v.processor n ≡ Some (post counter number) → joins (tree_at v.home) (plan_at v.home) number ≡ true → number < answered
+    (n number : ℕ) → n < v.position → act_at (protocol_at v.home) v.processor n
+    ≡ Some (post counter number) → joins (tree_at v.home) (plan_at v.home) number ≡ true
+    → number < answered
 
 -- its last polls found too little, and there were at least 1000 of them: the last one found this, in vain
 pub record HasMissed (old new : CellView) (seen : ℕ) : Type 0 where
@@ -34,7 +36,9 @@ pub record HasMissed (old new : CellView) (seen : ℕ) : Type 0 where
 
 -- the counter of another is awaited next, or its signal, or all arrivals at a barrier
 abbrev pub IsAwaited : CellView → ℕ → ℕ → Type 0
-IsAwaited v on wanted = AwaitsNext v on wanted ⊎ (AwaitsSignalNext v on wanted ⊎ ((number : ℕ) × GathersNext v number × (on ≡ (protocol_at v.home).workers) × (wanted ≡ all_arrivals v)))
+IsAwaited v on wanted = AwaitsNext v on wanted
+    ⊎ (AwaitsSignalNext v on wanted ⊎ ((number : ℕ) × GathersNext v number
+    × (on ≡ (protocol_at v.home).workers) × (wanted ≡ all_arrivals v)))
 
 -- that is awaited next, the last poll found this, which is less, in vain, and there were 1000 misses in a row or more, those before aside
 pub record IsWaiting (old new : CellView) (on wanted seen : ℕ) : Type 0 where
@@ -49,7 +53,8 @@ pub record IsJoined (answered : ℕ) (v : CellView) (e : ℕ) : Type 0 where
   pub several : 1 < (protocol_at v.home).workers
   pub join : joins (tree_at v.home) (plan_at v.home) (e - 1) ≡ true
   pub above : answered < e
-  pub posted : (n : ℕ) × (v.position ≡ suc n) × (act_at (protocol_at v.home) v.processor n ≡ Some (post counter (e - 1)))
+  pub posted : (n : ℕ) × (v.position ≡ suc n)
+      × (act_at (protocol_at v.home) v.processor n ≡ Some (post counter (e - 1)))
   pub awaits : (on wanted : ℕ) × (next_act v ≡ Some (await counter on wanted))
 
 -- the phase in front of which the join stands that was answered last, 0 where there is none, behind this answer

@@ -30,7 +30,8 @@ style_at h = style_given h.given
 
 -- all turns of a processor, and all its deeds
 abbrev pub turns_at : Home → ℕ → List Turn
-turns_at h p = turns_by (style_at h) (tree_at h) (plan_at h) p first_standing (counter_turns (tree_at h) (plan_at h) p 1 (phases (tree_at h) (plan_at h).cut.marks))
+turns_at h p = turns_by (style_at h) (tree_at h) (plan_at h) p first_standing
+    (counter_turns (tree_at h) (plan_at h) p 1 (phases (tree_at h) (plan_at h).cut.marks))
 
 -- its deeds in turns
 abbrev pub deeds_in : Home → ℕ → List Turn → List Deed
@@ -41,7 +42,8 @@ deeds_at h p = deeds_in h p (turns_at h p)
 
 -- how many deeds the processor of a seat has done that has these turns left
 abbrev pub place_of : CellView → Turns → ℕ
-place_of v t = length (deeds_at v.home v.processor) - length (deeds_in v.home v.processor (turns_left t))
+place_of v t =
+    length (deeds_at v.home v.processor) - length (deeds_in v.home v.processor (turns_left t))
 
 -- ---- own cells
 
@@ -57,16 +59,21 @@ held_cells h p n = map (λ k. held_at (protocol_at h) p (own_place h p k) n) (ra
 
 -- a seat stands where it stood, or further on, behind an act that was done
 abbrev pub is_on : CellView → CellView → Bool
-is_on old new = (new.position == old.position && (new.misses == old.misses && new.seen == old.seen)) || (nat_lt old.position new.position && new.misses == 0)
+is_on old new = (new.position == old.position && (new.misses == old.misses && new.seen == old.seen))
+    || (nat_lt old.position new.position && new.misses == 0)
 
 -- a seat that stood there, and own cells, show that so many deeds are done, and those behind them that nobody else sees
 abbrev pub is_behind : CellView → CellView → List ℤ → ℕ → Bool
 is_behind from v own n =
-    (settled_at (protocol_at v.home) v.processor n == v.position) && (nat_le n (length (deeds_at v.home v.processor)) && (is_on from v && pointwise int_eq own (held_cells v.home v.processor n)))
+    (settled_at (protocol_at v.home) v.processor n == v.position)
+    && (nat_le n (length (deeds_at v.home v.processor))
+    && (is_on from v && pointwise int_eq own (held_cells v.home v.processor n)))
 
 -- what is left behind so many, or more than there is where the seat and the cells don't show it; what the loads since the last store, addition or PRINT gave, and what was printed
 abbrev pub left_behind : CellView → CellView → List ℤ → ℕ → List Deed
-left_behind from v own n = if is_behind from v own n then drop n (deeds_at v.home v.processor) else posting signal 0 ∷ deeds_at v.home v.processor
+left_behind from v own n = if is_behind from v own n
+    then drop n (deeds_at v.home v.processor)
+    else posting signal 0 ∷ deeds_at v.home v.processor
 
 abbrev pub registers_behind : CellView → ℕ → List ℤ
 registers_behind v n = (protocol_at v.home).registers_at v.processor n
@@ -78,4 +85,5 @@ printed_behind v n = (protocol_at v.home).printed_at v.processor n
 
 -- what is left, as an instance of the phase has it that these turns are in
 abbrev pub left_seen : Turns → CellView → CellView → List ℤ → ℕ → List Deed
-left_seen t from v own n = map (phase_deed (tree_at v.home) (plan_at v.home) (turns_place t) v.processor) (left_behind from v own n)
+left_seen t from v own n = map (phase_deed (tree_at v.home) (plan_at v.home) (turns_place t)
+    v.processor) (left_behind from v own n)

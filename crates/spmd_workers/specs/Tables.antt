@@ -11,7 +11,8 @@ use Rattle.sync_plan.specs.declared.plan.Plan.{Plan}
 use Rattle.instance_runs.specs.Rooms.{longest_output}
 
 -- they are those of a program under a plan that fits it
-pub record AreTables (tree : Tree) (plan : Plan) (table : CellTable) (params : List ℤ) (room : ℕ) : Type 0 where
+pub record AreTables (tree : Tree) (plan : Plan) (table : CellTable) (params : List ℤ) (room : ℕ) :
+    Type 0 where
   pub formed : IsWellFormed tree
   pub limits : IsWithinLimits tree
   pub ranges : IsInRange tree

@@ -22,7 +22,8 @@ use Rattle.spmd_workers.specs.declared.worker.Leg.TheVariants.{Ended, Joined, Wa
 
 -- each access of an instance is in range, and each of its cells is the program's
 abbrev pub is_instance_there : Tree → Instance → Bool
-is_instance_there tree i = is_instance_inside tree i && list_all (λ c. nat_lt c (cell_count tree)) (cells_of tree i)
+is_instance_there tree i =
+    is_instance_inside tree i && list_all (λ c. nat_lt c (cell_count tree)) (cells_of tree i)
 
 -- of one that a turn runs
 abbrev pub is_turn_there : Tree → Turn → Bool
@@ -42,19 +43,22 @@ pub record IsWalk (x : Walk) : Type 0 where
   pub front : List Turn
   pub behind : turns_at x.seat.home x.seat.processor ≡ front ++ turns_left x.turns
   pub begun : List ℕ
-  pub begins : range_with_len 1 (length (phases (tree_at x.seat.home) (plan_at x.seat.home).cut.marks)) ≡ begun ++ beginnings_left x.turns
+  pub begins : range_with_len 1 (length (phases (tree_at x.seat.home)
+      (plan_at x.seat.home).cut.marks)) ≡ begun ++ beginnings_left x.turns
   pub sound : AreSound x.turns
   pub tree : turns_tree x.turns ≡ tree_at x.seat.home
   pub plan : turns_plan x.turns ≡ plan_at x.seat.home
   pub processor : turns_processor x.turns ≡ x.seat.processor
   pub style : turns_style x.turns ≡ style_at x.seat.home
-  pub settled : settled_at (protocol_at x.seat.home) x.seat.processor (walk_place x) ≡ x.seat.position
+  pub settled : settled_at (protocol_at x.seat.home) x.seat.processor (walk_place x)
+      ≡ x.seat.position
   pub idle : registers_behind x.seat (walk_place x) ≡ []
   pub own : x.own ≡ held_cells x.seat.home x.seat.processor (walk_place x)
   pub can : CanExecute x.executor
   pub executes : executor_tree x.executor ≡ tree_at x.seat.home
   pub output : executor_output x.executor ≡ printed_behind x.seat (walk_place x)
-  pub room : length (executor_output x.executor) + sum_by (turn_room (tree_at x.seat.home)) (turns_left x.turns) ≤ executor_room x.executor
+  pub room : length (executor_output x.executor)
+      + sum_by (turn_room (tree_at x.seat.home)) (turns_left x.turns) ≤ executor_room x.executor
   pub there : IsTrue (list_all (is_turn_there (tree_at x.seat.home)) (turns_left x.turns))
   pub answered : AreAnswered x.seat x.answered
   pub over : x.ended ≡ true → IsAtEnd x
@@ -70,7 +74,8 @@ pub record GoesTo (old new : Walk) : Type 0 where
 abbrev pub Answers : Walk → Walk → Leg → Type 0
 Answers old new Ended = IsFurther old.seat new.seat × (new.ended ≡ true)
 Answers old new (Joined e) = IsFurther old.seat new.seat × IsJoined old.answered new.seat e
-Answers old new (Waiting on wanted seen) = (old.seat.position ≤ new.seat.position) × IsWaiting old.seat new.seat on wanted seen
+Answers old new (Waiting on wanted seen) =
+    (old.seat.position ≤ new.seat.position) × IsWaiting old.seat new.seat on wanted seen
 
 -- how much is left: turns, and phases that have still to begin
 abbrev pub to_go : Walk → ℕ
@@ -85,7 +90,8 @@ pub record LeadsOn (old new : Walk) : Type 0 where
 -- a leg ends there, with nothing left to print in front of its next act
 pub record EndsLeg (old new : Walk) (leg : Leg) : Type 0 where
   pub answers : Answers old new leg
-  pub answered : 1 < (protocol_at old.seat.home).workers → new.answered ≡ answered_last old.answered leg
+  pub answered : 1 < (protocol_at old.seat.home).workers
+      → new.answered ≡ answered_last old.answered leg
   pub placed : walk_place new ≡ new.seat.position
 
 -- what a turn tells

@@ -15,12 +15,27 @@ pub record WorkerView : Type 0 where
   pub ended : Bool
 
 abbrev pub worker_code : Coded WorkerView
-worker_code = code_by (CellView × (ℕ × (ℕ × (List ℕ × Bool)))) (coded× cell_view_code (coded× coded_ℕ (coded× coded_ℕ (coded× (coded_list coded_ℕ) coded_bool)))) (λ w. (w.seat, (w.answered, (w.legs, (w.output, w.ended)))))
-    (λ x. record { seat = x.0; answered = x.1.0; legs = x.1.1.0; output = x.1.1.1.0; ended = x.1.1.1.1 }) (λ _. refl)
+worker_code = code_by (CellView × (ℕ × (ℕ × (List ℕ × Bool))))
+    (coded× cell_view_code (coded× coded_ℕ (coded× coded_ℕ
+    (coded× (coded_list coded_ℕ) coded_bool))))
+    (λ w. (w.seat, (w.answered, (w.legs, (w.output, w.ended)))))
+    (λ x. record {
+      seat = x.0;
+      answered = x.1.0;
+      legs = x.1.1.0;
+      output = x.1.1.1.0;
+      ended = x.1.1.1.1;
+    }) (λ _. refl)
 
 -- the same in another home
 abbrev pub worker_in : Home → WorkerView → WorkerView
-worker_in h w = record { seat = seat_in h w.seat; answered = w.answered; legs = w.legs; output = w.output; ended = w.ended }
+worker_in h w = record {
+  seat = seat_in h w.seat;
+  answered = w.answered;
+  legs = w.legs;
+  output = w.output;
+  ended = w.ended;
+}
 
 -- no more than all acts of the seat's processor are done
 abbrev pub IsInside : CellView → Type 0

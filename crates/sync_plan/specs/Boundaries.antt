@@ -35,7 +35,8 @@ kind_before plan (Some v) = slice_get plan.kinds (v.place - 1)
 
 -- a barrier stands in front of the phase with so many phases in front of it, and some processor awaits another there
 abbrev pub gathers : Tree → Plan → ℕ → Bool
-gathers tree plan number = is_barrier (kind_before plan (slice_get (phases tree plan.cut.marks) number)) && nat_lt 1 plan.workers
+gathers tree plan number = is_barrier (kind_before plan
+    (slice_get (phases tree plan.cut.marks) number)) && nat_lt 1 plan.workers
 
 -- a join stands there
 abbrev pub joins : Tree → Plan → ℕ → Bool

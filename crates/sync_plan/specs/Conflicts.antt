@@ -21,10 +21,12 @@ owner_under tree plan x = owner_of tree plan.anchors plan.workers x
 
 -- the cells that an instance loads, in text order, and the one that it stores: an own scalar's are its owner's
 abbrev pub loads_under : Tree → Plan → Execution → List ℕ
-loads_under tree plan x = map (own_cell (own_of tree plan x.place) (owner_under tree plan x)) (loads_of tree x.instance)
+loads_under tree plan x =
+    map (own_cell (own_of tree plan x.place) (owner_under tree plan x)) (loads_of tree x.instance)
 
 abbrev pub store_under : Tree → Plan → Execution → Option ℕ
-store_under tree plan x = option_map (own_cell (own_of tree plan x.place) (owner_under tree plan x)) (store_of tree x.instance)
+store_under tree plan x = option_map (own_cell (own_of tree plan x.place) (owner_under tree plan x))
+    (store_of tree x.instance)
 
 -- how many pieces of work stand in front of the first access of a scalar in a statement, and in a loop's body
 abbrev mutual
@@ -35,11 +37,13 @@ abbrev mutual
 
   pub works_before : ℕ → Statements → ℕ
   works_before v done = 0
-  works_before v (next s rest) = if some_in (has_access v) s then works_before_in v s else works_in s + works_before v rest
+  works_before v (next s rest) =
+      if some_in (has_access v) s then works_before_in v s else works_in s + works_before v rest
 
 -- the number, from 1, of the first piece of work of a static phase: the phases in front of it have all those in front
 abbrev pub first_work : Tree → Plan → ℕ → ℕ
-first_work tree plan place = 1 + sum_by (λ (s : Placed). works_in s.what) (take (place - 1) (static_phases tree plan.cut.marks))
+first_work tree plan place = 1 + sum_by (λ (s : Placed). works_in s.what)
+    (take (place - 1) (static_phases tree plan.cut.marks))
 
 -- the last of some values, if there is one
 abbrev pub last_value : List ℤ → Option ℤ
@@ -60,19 +64,23 @@ is_last_trip params None loops = false
 is_last_trip params (Some s) loops = is_last_of params s.what loops
   where
     is_last_of : List ℤ → Statement → List ℤ → Bool
-    is_last_of params (do_loop head body) loops = is_value (last_value (head_trips params head loops)) (numbered loops head.number)
+    is_last_of params (do_loop head body) loops =
+        is_value (last_value (head_trips params head loops)) (numbered loops head.number)
     is_last_of params (work w) loops = false
     is_last_of params (continue line) loops = false
 
 -- an instance is that of a private scalar's first store in the last trip of its phase's loop
 abbrev pub is_last_store : Tree → Plan → Execution → ℕ → Bool
 is_last_store tree plan x v =
-    is_last_trip (param_values tree) (slice_get (static_phases tree plan.cut.marks) (x.place - 1)) x.instance.loops
-    && x.instance.statement == first_work tree plan x.place + works_before v (own_loop tree plan x.place).body
+    is_last_trip (param_values tree) (slice_get (static_phases tree plan.cut.marks) (x.place - 1))
+    x.instance.loops
+    && x.instance.statement == first_work tree plan x.place
+    + works_before v (own_loop tree plan x.place).body
 
 -- what others see of an instance: its cells, but of a private scalar only its first store in the loop's last trip
 abbrev pub seen_loads : Tree → Plan → Execution → List ℕ
-seen_loads tree plan x = filter (λ c. not (is_cell_of tree (own_loop tree plan x.place).privates c)) (loads_of tree x.instance)
+seen_loads tree plan x = filter (λ c. not (is_cell_of tree (own_loop tree plan x.place).privates c))
+    (loads_of tree x.instance)
 
 abbrev pub seen_by : Tree → Plan → Execution → ℕ → Option ℕ → Option ℕ
 seen_by tree plan x c None = Some c
@@ -80,7 +88,8 @@ seen_by tree plan x c (Some v) = if is_last_store tree plan x v then Some c else
 
 abbrev pub seen_stored : Tree → Plan → Execution → Option ℕ → Option ℕ
 seen_stored tree plan x None = None
-seen_stored tree plan x (Some c) = seen_by tree plan x c (find (λ v. first_cell tree v == c) (own_loop tree plan x.place).privates)
+seen_stored tree plan x (Some c) =
+    seen_by tree plan x c (find (λ v. first_cell tree v == c) (own_loop tree plan x.place).privates)
 
 abbrev pub seen_store : Tree → Plan → Execution → Option ℕ
 seen_store tree plan x = seen_stored tree plan x (store_of tree x.instance)

@@ -34,7 +34,8 @@ numbered_anchors n (a ∷ rest) = (n, a) ∷ numbered_anchors (suc n) rest
 
 abbrev pub kind_anchors : ℕ → List Kind → List (ℕ × Anchor)
 kind_anchors n [] = []
-kind_anchors n (kind ∷ rest) = cons_option (option_map (λ a. (n, a)) (anchor_in kind)) (kind_anchors (suc n) rest)
+kind_anchors n (kind ∷ rest) =
+    cons_option (option_map (λ a. (n, a)) (anchor_in kind)) (kind_anchors (suc n) rest)
 
 -- the phases' anchors are placed first, then the kinds'
 abbrev pub placed_anchors : Plan → List (ℕ × Anchor)
@@ -59,7 +60,8 @@ meets params row = int_le (dot row.coefs params) row.bound
 -- the first row, from the one with this number on, that they don't meet
 abbrev pub unmet_among : ℕ → List ℤ → List ConditionRow → Option ℕ
 unmet_among n params [] = None
-unmet_among n params (row ∷ rest) = if meets params row then unmet_among (suc n) params rest else Some n
+unmet_among n params (row ∷ rest) =
+    if meets params row then unmet_among (suc n) params rest else Some n
 
 abbrev pub unmet : List ℤ → Conditions → Option ℕ
 unmet params Values = None
@@ -73,8 +75,10 @@ as_misfit why (Some a) = Some (why a)
 abbrev pub first_misfit : Tree → Plan → Option Misfit
 first_misfit tree plan =
     option_or (as_misfit shape (wrong_field tree plan))
-    (option_or (as_misfit placement (unplaced tree plan.cut.marks plan.workers (placed_anchors plan)))
-    (option_or (as_misfit print_place (misplaced_print 1 plan.cut.marks (static_phases tree plan.cut.marks) plan.anchors))
+    (option_or (as_misfit placement (unplaced tree plan.cut.marks plan.workers
+    (placed_anchors plan)))
+    (option_or (as_misfit print_place (misplaced_print 1 plan.cut.marks
+    (static_phases tree plan.cut.marks) plan.anchors))
     (as_misfit condition (unmet (param_values tree) plan.conditions))))
 
 -- there is none

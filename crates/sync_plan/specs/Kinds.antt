@@ -27,7 +27,8 @@ kind_word Join = codes "JOIN"
 
 -- what they are called, from the weakest on
 abbrev pub all_words : List (List ℕ)
-all_words = codes "NOTHING" ∷ codes "PRODUCER" ∷ codes "LEFT" ∷ codes "RIGHT" ∷ codes "BOTH" ∷ codes "BARRIER" ∷ codes "JOIN" ∷ []
+all_words = codes "NOTHING" ∷ codes "PRODUCER" ∷ codes "LEFT" ∷ codes "RIGHT" ∷ codes "BOTH"
+    ∷ codes "BARRIER" ∷ codes "JOIN" ∷ []
 
 -- the kind without an anchor that a word names, Join where no other is called so
 abbrev pub plain_kind : List ℕ → Kind

@@ -32,7 +32,8 @@ own_loop_at cut (Some s) = own_loop_of cut s.what
 
 -- those of the static phase with this number, from 1
 abbrev pub own_loop : Tree → Plan → ℕ → OwnLoop
-own_loop tree plan place = own_loop_at plan.cut (slice_get (static_phases tree plan.cut.marks) (place - 1))
+own_loop tree plan place =
+    own_loop_at plan.cut (slice_get (static_phases tree plan.cut.marks) (place - 1))
 
 -- a cell is that of one of these scalars
 abbrev pub is_cell_of : Tree → List ℕ → ℕ → Bool
@@ -57,7 +58,8 @@ own_of tree plan place =
     record {
       workers = plan.workers;
       shared = cell_count tree;
-      slot = λ c. option_or (place_in tree own.privates c) (option_map (λ k. 16 + k) (place_in tree own.sums c));
+      slot = λ c. option_or (place_in tree own.privates c)
+          (option_map (λ k. 16 + k) (place_in tree own.sums c));
       is_sum = is_cell_of tree own.sums;
       cell = λ p k. cell_count tree + (32 * p + k);
     }

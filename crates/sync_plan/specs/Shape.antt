@@ -35,13 +35,15 @@ fits_mark inside Inner = inside
 abbrev mutual
   pub is_marked_well : List Mark → Bool → Statement → Bool
   is_marked_well marks inside (do_loop head body) =
-      fits_mark inside (mark_of marks head.number) && are_marked_well marks (inside || is_closed (mark_of marks head.number)) body
+      fits_mark inside (mark_of marks head.number)
+      && are_marked_well marks (inside || is_closed (mark_of marks head.number)) body
   is_marked_well marks inside (work w) = true
   is_marked_well marks inside (continue line) = true
 
   pub are_marked_well : List Mark → Bool → Statements → Bool
   are_marked_well marks inside done = true
-  are_marked_well marks inside (next s rest) = is_marked_well marks inside s && are_marked_well marks inside rest
+  are_marked_well marks inside (next s rest) =
+      is_marked_well marks inside s && are_marked_well marks inside rest
 
 -- the static phases in text order, each with the numbers of the Outer loops round it, the innermost first
 abbrev pub static_phases : Tree → List Mark → List Placed
@@ -49,7 +51,8 @@ static_phases tree marks = placed tree (enters_outer marks)
 
 -- the loops that a phase's form may name: its Outer loops and, where its trips are dealt, its own loop
 abbrev pub own_loops : List Mark → Statement → List ℕ → List ℕ
-own_loops marks (do_loop head body) around = if is_doall (mark_of marks head.number) then head.number ∷ around else around
+own_loops marks (do_loop head body) around =
+    if is_doall (mark_of marks head.number) then head.number ∷ around else around
 own_loops marks (work w) around = around
 own_loops marks (continue line) around = around
 
@@ -58,24 +61,28 @@ abbrev pub is_good_anchor : ℕ → List ℕ → Anchor → Bool
 is_good_anchor constants loops a = names_only constants loops a.form && has_places a.dist
 
 abbrev pub is_good_kind : ℕ → List ℕ → Kind → Bool
-is_good_kind constants loops kind = option_map_or (is_good_anchor constants loops) (anchor_in kind) true
+is_good_kind constants loops kind =
+    option_map_or (is_good_anchor constants loops) (anchor_in kind) true
 
 -- the anchors of the static phases, and those of the kinds in front of them
 abbrev pub are_good_anchors : ℕ → List Mark → List Placed → List Anchor → Bool
 are_good_anchors constants marks [] anchors = true
 are_good_anchors constants marks (s ∷ rest) [] = true
 are_good_anchors constants marks (s ∷ rest) (a ∷ anchors) =
-    is_good_anchor constants (own_loops marks s.what s.around) a && are_good_anchors constants marks rest anchors
+    is_good_anchor constants (own_loops marks s.what s.around) a
+    && are_good_anchors constants marks rest anchors
 
 abbrev pub are_good_kinds : ℕ → List Placed → List Kind → Bool
 are_good_kinds constants [] kinds = true
 are_good_kinds constants (s ∷ rest) [] = true
-are_good_kinds constants (s ∷ rest) (k ∷ kinds) = is_good_kind constants s.around k && are_good_kinds constants rest kinds
+are_good_kinds constants (s ∷ rest) (k ∷ kinds) =
+    is_good_kind constants s.around k && are_good_kinds constants rest kinds
 
 -- a row of conditions names a named constant, and only ones that are there, by rising numbers, with numbers within plus or minus 2147483647
 abbrev pub is_good_row : ℕ → ConditionRow → Bool
 is_good_row constants row =
-    nat_lt 0 (length row.coefs) && rises_above 0 row.coefs && list_all (λ p. is_number_of constants p.0) row.coefs && is_small row.bound
+    nat_lt 0 (length row.coefs) && rises_above 0 row.coefs
+    && list_all (λ p. is_number_of constants p.0) row.coefs && is_small row.bound
 
 -- a version that has rows of conditions
 abbrev pub has_rows : Version → Bool
@@ -87,7 +94,8 @@ has_rows Five = true
 
 abbrev pub are_good_conditions : ℕ → Version → Conditions → Bool
 are_good_conditions constants version Values = true
-are_good_conditions constants version (Rows rows) = has_rows version && list_all (is_good_row constants) rows
+are_good_conditions constants version (Rows rows) =
+    has_rows version && list_all (is_good_row constants) rows
 
 -- a version that has Sum loops
 abbrev pub has_sums : Version → Bool
@@ -112,38 +120,46 @@ do_rise least (v ∷ vs) = nat_lt least v && do_rise v vs
 
 -- a loop with this mark and body has 1 to 16 sum scalars, in a version that has such loops, where its mark is Sum
 abbrev pub is_good_sum : Version → Mark → Statements → Bool
-is_good_sum version mark body = not (is_sum_mark mark) || (has_sums version && nat_le 1 (length (sum_scalars body)) && nat_le (length (sum_scalars body)) 16)
+is_good_sum version mark body = not (is_sum_mark mark)
+    || (has_sums version && nat_le 1 (length (sum_scalars body))
+    && nat_le (length (sum_scalars body)) 16)
 
 -- a loop with this mark and body has no private scalar; or its trips are dealt, the version has private scalars, there are at most 16, they rise from 1, and each may be private
 abbrev pub are_good_privates : Version → Mark → Statements → List ℕ → Bool
 are_good_privates version mark body vs =
-    length vs == 0 || (has_privates version && is_doall mark && nat_le (length vs) 16 && do_rise 0 vs && list_all (λ v. is_private v body) vs)
+    length vs == 0 || (has_privates version && is_doall mark && nat_le (length vs) 16
+    && do_rise 0 vs && list_all (λ v. is_private v body) vs)
 
 -- each loop of these statements has good sums, or good private scalars
 abbrev mutual
   pub has_good_sums : Version → List Mark → Statement → Bool
-  has_good_sums version marks (do_loop head body) = is_good_sum version (mark_of marks head.number) body && have_good_sums version marks body
+  has_good_sums version marks (do_loop head body) =
+      is_good_sum version (mark_of marks head.number) body && have_good_sums version marks body
   has_good_sums version marks (work w) = true
   has_good_sums version marks (continue line) = true
 
   pub have_good_sums : Version → List Mark → Statements → Bool
   have_good_sums version marks done = true
-  have_good_sums version marks (next s rest) = has_good_sums version marks s && have_good_sums version marks rest
+  have_good_sums version marks (next s rest) =
+      has_good_sums version marks s && have_good_sums version marks rest
 
 abbrev mutual
   pub has_good_privates : Version → Cutting → Statement → Bool
   has_good_privates version cut (do_loop head body) =
-      are_good_privates version (mark_of cut.marks head.number) body (privates_of cut.privates head.number) && have_good_privates version cut body
+      are_good_privates version (mark_of cut.marks head.number) body
+      (privates_of cut.privates head.number) && have_good_privates version cut body
   has_good_privates version cut (work w) = true
   has_good_privates version cut (continue line) = true
 
   pub have_good_privates : Version → Cutting → Statements → Bool
   have_good_privates version cut done = true
-  have_good_privates version cut (next s rest) = has_good_privates version cut s && have_good_privates version cut rest
+  have_good_privates version cut (next s rest) =
+      has_good_privates version cut s && have_good_privates version cut rest
 
 -- there are as many lists of private scalars as loops, and they are good
 abbrev pub is_privately_good : Version → Cutting → Statements → Bool
-is_privately_good version cut items = length cut.privates == loops_of items && have_good_privates version cut items
+is_privately_good version cut items =
+    length cut.privates == loops_of items && have_good_privates version cut items
 
 -- the first field that is wrong: 1 the workers aren't 1 to 64; 2 the marks aren't as many as the loops; 3 a mark where it may not stand; 4 the anchors or the kinds aren't as many as the static phases; 5 an anchor of a phase; 6 an anchor of a kind; 8 the conditions; 9 the sum scalars of a Sum loop; 10 the private scalars (field 7 counts certificates, which a check of the whole plan does)
 abbrev pub wrong_field : Tree → Plan → Option ℕ

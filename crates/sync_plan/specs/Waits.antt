@@ -31,24 +31,29 @@ abbrev pub awaited_at : Kind → ℕ → ℕ → ℕ → List ℕ
 awaited_at kind owner workers p = filter (does_wait_at kind owner p) (range_with_len 0 workers)
 
 abbrev pub is_awaited_at : Kind → ℕ → ℕ → ℕ → Bool
-is_awaited_at kind owner workers q = list_any (λ p. does_wait_at kind owner p q) (range_with_len 0 workers)
+is_awaited_at kind owner workers q =
+    list_any (λ p. does_wait_at kind owner p q) (range_with_len 0 workers)
 
 -- the same in front of a phase of the static phase with this number, from 1, where the loops have these values by number
 abbrev pub awaited_behind : Option Kind → ℕ → List ℤ → List ℤ → ℕ → List ℕ
 awaited_behind None workers loops params p = []
-awaited_behind (Some kind) workers loops params p = awaited_at kind (kind_owner kind workers loops params) workers p
+awaited_behind (Some kind) workers loops params p =
+    awaited_at kind (kind_owner kind workers loops params) workers p
 
 abbrev pub is_awaited_behind : Option Kind → ℕ → List ℤ → List ℤ → ℕ → Bool
 is_awaited_behind None workers loops params q = false
-is_awaited_behind (Some kind) workers loops params q = is_awaited_at kind (kind_owner kind workers loops params) workers q
+is_awaited_behind (Some kind) workers loops params q =
+    is_awaited_at kind (kind_owner kind workers loops params) workers q
 
 -- whom p waits for in front of a phase, rising
 abbrev pub waits_for : Tree → Plan → ℕ → ℕ → List ℤ → List ℕ
-waits_for tree plan p place loops = awaited_behind (slice_get plan.kinds (place - 1)) plan.workers loops (param_values tree) p
+waits_for tree plan p place loops =
+    awaited_behind (slice_get plan.kinds (place - 1)) plan.workers loops (param_values tree) p
 
 -- q posts in front of a phase: some processor waits for it there
 abbrev pub posts_at : Tree → Plan → ℕ → ℕ → List ℤ → Bool
-posts_at tree plan q place loops = is_awaited_behind (slice_get plan.kinds (place - 1)) plan.workers loops (param_values tree) q
+posts_at tree plan q place loops =
+    is_awaited_behind (slice_get plan.kinds (place - 1)) plan.workers loops (param_values tree) q
 
 -- of three processors the middle one waits for both others at Both, the first for the middle one; at Right nobody waits for the first
 pub awaited_at-both : awaited_at Both 0 3 1 ≡ 0 ∷ 2 ∷ []

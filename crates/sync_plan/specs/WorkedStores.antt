@@ -26,13 +26,16 @@ abbrev a : Access
 a = record { variable = 2; subscripts = own_value ∷ [] }
 
 abbrev stores : Access → Expression → Statement
-stores target value = work (assign (record { target = target; value = value; guard = None; line = 2 }))
+stores target value =
+    work (assign (record { target = target; value = value; guard = None; line = 2 }))
 
 abbrev round : Head → Tree
 round head = record {
-  items = next (do_loop head (next (stores k (loop_value 1)) (next (stores a (load k)) (next (stores k (number (pos 0))) done)))) done;
+  items = next (do_loop head (next (stores k (loop_value 1))
+      (next (stores a (load k)) (next (stores k (number (pos 0))) done)))) done;
   params = [];
-  variables = record { name = 75 ∷ []; bounds = []; axis = 1; spread = Block } ∷ record { name = 65 ∷ []; bounds = (pos 1, pos 7) ∷ []; axis = 1; spread = Block } ∷ [];
+  variables = record { name = 75 ∷ []; bounds = []; axis = 1; spread = Block }
+      ∷ record { name = 65 ∷ []; bounds = (pos 1, pos 7) ∷ []; axis = 1; spread = Block } ∷ [];
 }
 
 abbrev k_private : Plan
@@ -63,18 +66,24 @@ pub rising-last : last_value (head_trips [] rising []) ≡ Some (pos 5)
 rising-last = refl
 
 -- a value is the last exactly where it comes within a step of m2: i - m2 <= -s - 1 where the step s is negative, -i + m2 <= s - 1 where it isn't
-pub falling-row : map (λ i. int_le (i -ℤ pos 2) (pos 1)) (head_trips [] falling []) ≡ map (is_value (last_value (head_trips [] falling []))) (head_trips [] falling [])
+pub falling-row : map (λ i. int_le (i -ℤ pos 2) (pos 1)) (head_trips [] falling [])
+    ≡ map (is_value (last_value (head_trips [] falling []))) (head_trips [] falling [])
 falling-row = refl
 
-pub rising-row : map (λ i. int_le (pos 6 -ℤ i) (pos 1)) (head_trips [] rising []) ≡ map (is_value (last_value (head_trips [] rising []))) (head_trips [] rising [])
+pub rising-row : map (λ i. int_le (pos 6 -ℤ i) (pos 1)) (head_trips [] rising [])
+    ≡ map (is_value (last_value (head_trips [] rising []))) (head_trips [] rising [])
 rising-row = refl
 
 -- of the stores to K others see one, the first in the last trip, and of its loads none; each store to A they see
-pub falling-seen : map (seen_store (round falling) k_private) (executions (round falling) (Doall ∷ [])) ≡ None ∷ Some 7 ∷ None ∷ None ∷ Some 5 ∷ None ∷ Some 0 ∷ Some 3 ∷ None ∷ []
+pub falling-seen : map (seen_store (round falling) k_private)
+    (executions (round falling) (Doall ∷ []))
+    ≡ None ∷ Some 7 ∷ None ∷ None ∷ Some 5 ∷ None ∷ Some 0 ∷ Some 3 ∷ None ∷ []
 falling-seen = refl
 
-pub rising-seen : map (seen_store (round rising) k_private) (executions (round rising) (Doall ∷ [])) ≡ None ∷ Some 1 ∷ None ∷ None ∷ Some 3 ∷ None ∷ Some 0 ∷ Some 5 ∷ None ∷ []
+pub rising-seen : map (seen_store (round rising) k_private) (executions (round rising) (Doall ∷ []))
+    ≡ None ∷ Some 1 ∷ None ∷ None ∷ Some 3 ∷ None ∷ Some 0 ∷ Some 5 ∷ None ∷ []
 rising-seen = refl
 
-pub no-load-is-seen : map (seen_loads (round falling) k_private) (executions (round falling) (Doall ∷ [])) ≡ [] ∷ [] ∷ [] ∷ [] ∷ [] ∷ [] ∷ [] ∷ [] ∷ [] ∷ []
+pub no-load-is-seen : map (seen_loads (round falling) k_private)
+    (executions (round falling) (Doall ∷ [])) ≡ [] ∷ [] ∷ [] ∷ [] ∷ [] ∷ [] ∷ [] ∷ [] ∷ [] ∷ []
 no-load-is-seen = refl

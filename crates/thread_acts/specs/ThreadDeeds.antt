@@ -51,19 +51,23 @@ right_deeds workers p e = post_if (nat_lt 0 p) e ++ await_if (nat_lt (p + 1) wor
 
 -- if (P > 1) post; if (p > 0) await(p - 1); if (p + 1 < P) await(p + 1)
 abbrev pub both_deeds : ℕ → ℕ → ℕ → List Deed
-both_deeds workers p e = post_if (nat_lt 1 workers) e ++ (await_if (nat_lt 0 p) (p - 1) e ++ await_if (nat_lt (p + 1) workers) (p + 1) e)
+both_deeds workers p e = post_if (nat_lt 1 workers) e
+    ++ (await_if (nat_lt 0 p) (p - 1) e ++ await_if (nat_lt (p + 1) workers) (p + 1) e)
 
 -- if (p == q) post; else await(q): alone, it posts what nobody awaits, which is no deed
 abbrev pub producer_deeds : ℕ → ℕ → ℕ → ℕ → List Deed
-producer_deeds workers p q e = if q == p then post_if (nat_lt 1 workers) e else awaiting counter q e ∷ []
+producer_deeds workers p q e =
+    if q == p then post_if (nat_lt 1 workers) e else awaiting counter q e ∷ []
 
 -- each processor tells that it has come, and awaits all others
 abbrev pub barrier_deeds : ℕ → ℕ → ℕ → List Deed
-barrier_deeds workers p e = post_if (nat_lt 1 workers) e ++ map (λ q. awaiting counter q e) (filter (λ q. not (p == q)) (range_with_len 0 workers))
+barrier_deeds workers p e = post_if (nat_lt 1 workers) e
+    ++ map (λ q. awaiting counter q e) (filter (λ q. not (p == q)) (range_with_len 0 workers))
 
 abbrev pub kind_deeds : Thread → Kind → List ℤ → ℕ → List Deed
 kind_deeds t Nothing loops e = []
-kind_deeds t (Producer a) loops e = producer_deeds t.workers t.processor (anchor_owner a t.workers loops (thread_params t)) e
+kind_deeds t (Producer a) loops e =
+    producer_deeds t.workers t.processor (anchor_owner a t.workers loops (thread_params t)) e
 kind_deeds t Left loops e = left_deeds t.workers t.processor e
 kind_deeds t Right loops e = right_deeds t.workers t.processor e
 kind_deeds t Both loops e = both_deeds t.workers t.processor e
@@ -78,17 +82,24 @@ front_of t (Some kind) loops e = kind_deeds t kind loops e
 
 -- the values that it makes a loop's trips with
 abbrev pub trips_found : Thread → Finding → Head → List ℤ → List ℤ
-trips_found t (all_of a) head loops = if is_named t a loops then head_trips (thread_params t) head loops else []
+trips_found t (all_of a) head loops =
+    if is_named t a loops then head_trips (thread_params t) head loops else []
 trips_found t (in_block length rest rise) head loops =
-    block_values length t.processor (form_value rest loops (thread_params t)) rise (form_value head.m1 loops (thread_params t)) (form_value head.m2 loops (thread_params t)) head.step
+    block_values length t.processor (form_value rest loops (thread_params t)) rise
+    (form_value head.m1 loops (thread_params t)) (form_value head.m2 loops (thread_params t))
+    head.step
 trips_found t (in_turn start turning) head loops =
-    turn_values t.workers turning t.processor (form_value start loops (thread_params t)) (form_value head.m1 loops (thread_params t)) (form_value head.m2 loops (thread_params t)) head.step
+    turn_values t.workers turning t.processor (form_value start loops (thread_params t))
+    (form_value head.m1 loops (thread_params t)) (form_value head.m2 loops (thread_params t))
+    head.step
 
 -- what it executes
 abbrev pub instances_found : Thread → Share → List ℤ → List Instance
 instances_found t (trips_of a finding head body privates sums) loops =
-    flat_map (λ v. instances_in (thread_params t) body 1 (with_loop loops head.number v)) (trips_found t finding head loops)
-instances_found t (work_of a w) loops = if is_named t a loops then instances_of (thread_params t) (work w) 1 loops else []
+    flat_map (λ v. instances_in (thread_params t) body 1 (with_loop loops head.number v))
+    (trips_found t finding head loops)
+instances_found t (work_of a w) loops =
+    if is_named t a loops then instances_of (thread_params t) (work w) 1 loops else []
 instances_found t no_share loops = []
 
 -- its own cells for private scalars and for sums
@@ -96,7 +107,8 @@ abbrev pub own_for : Thread → List ℕ → List ℕ → Own
 own_for t privates sums = record {
   workers = t.workers;
   shared = cell_count t.tree;
-  slot = λ c. option_or (place_in t.tree privates c) (option_map (λ k. 16 + k) (place_in t.tree sums c));
+  slot = λ c. option_or (place_in t.tree privates c)
+      (option_map (λ k. 16 + k) (place_in t.tree sums c));
   is_sum = is_cell_of t.tree sums;
   cell = λ p k. cell_count t.tree + (32 * p + k);
 }
@@ -118,37 +130,49 @@ abbrev pub has_last_trip : Thread → Anchor → Head → List ℤ → Bool
 has_last_trip t a head loops =
     let m1 = form_value head.m1 loops (thread_params t) in
     let m2 = form_value head.m2 loops (thread_params t) in
-    has_trips m1 m2 head.step && is_named t a (with_loop loops head.number (last_trip m1 m2 head.step))
+    has_trips m1 m2 head.step && is_named t a
+    (with_loop loops head.number (last_trip m1 m2 head.step))
 
 -- it has assigned this cell of those that all share
 abbrev pub has_assigned : Thread → Share → List ℤ → ℕ → Bool
-has_assigned t share loops c = list_any (λ i. stores_to (store_of t.tree i) c) (instances_found t share loops)
+has_assigned t share loops c =
+    list_any (λ i. stores_to (store_of t.tree i) c) (instances_found t share loops)
 
 -- behind its trips: the owner of the last one gives its private scalars to all; whoever has assigned a sum adds its total
 abbrev pub give_private : Thread → Own → ℕ → List Deed
-give_private t own scalar = keeping_deeds (own_cell own t.processor (first_cell t.tree scalar)) (first_cell t.tree scalar)
+give_private t own scalar =
+    keeping_deeds (own_cell own t.processor (first_cell t.tree scalar)) (first_cell t.tree scalar)
 
 abbrev pub share_closings : Thread → Share → List ℤ → List Deed
 share_closings t (trips_of a finding head body privates sums) loops =
-    (if has_last_trip t a head loops then flat_map (give_private t (own_for t privates sums)) privates else [])
-    ++ flat_map (λ s. totalled_by (own_for t privates sums) (first_cell t.tree s) t.processor (has_assigned t (trips_of a finding head body privates sums) loops (first_cell t.tree s))) sums
+    (if has_last_trip t a head loops
+    then flat_map (give_private t (own_for t privates sums)) privates
+    else [])
+    ++ flat_map (λ s. totalled_by (own_for t privates sums) (first_cell t.tree s) t.processor
+    (has_assigned t (trips_of a finding head body privates sums) loops (first_cell t.tree s)))
+    sums
 share_closings t (work_of a w) loops = []
 share_closings t no_share loops = []
 
 abbrev pub share_deeds : Thread → Share → List ℤ → List Deed
-share_deeds t share loops = flat_map (own_deeds t.tree (share_own t share) t.processor) (instances_found t share loops) ++ share_closings t share loops
+share_deeds t share loops = flat_map (own_deeds t.tree (share_own t share) t.processor)
+    (instances_found t share loops) ++ share_closings t share loops
 
 -- ---- the whole code
 
 -- one behind another, each told how many phases there were before it
 abbrev pub in_order : {A : Type 0} → (A → ℕ → List Deed × ℕ) → List A → ℕ → List Deed × ℕ
 in_order f [] e = ([], e)
-in_order f (x ∷ xs) e = let here = f x e in let later = in_order f xs here.1 in (here.0 ++ later.0, later.1)
+in_order f (x ∷ xs) e =
+    let here = f x e in let later = in_order f xs here.1 in (here.0 ++ later.0, later.1)
 
 abbrev mutual
   pub node_deeds : Thread → Node → List ℤ → ℕ → List Deed × ℕ
-  node_deeds t (each head body) loops e = in_order (λ v. nodes_deeds t body (with_loop loops head.number v)) (head_trips (thread_params t) head loops) e
-  node_deeds t (phase kind share) loops e = (front_of t kind loops e ++ share_deeds t share loops, suc e)
+  node_deeds t (each head body) loops e = in_order
+      (λ v. nodes_deeds t body (with_loop loops head.number v))
+      (head_trips (thread_params t) head loops) e
+  node_deeds t (phase kind share) loops e =
+      (front_of t kind loops e ++ share_deeds t share loops, suc e)
   node_deeds t no_node loops e = ([], e)
 
   pub nodes_deeds : Thread → Nodes → List ℤ → ℕ → List Deed × ℕ
@@ -168,7 +192,8 @@ code_deeds tree plan p code = (nodes_deeds (thread_of tree plan p) code (no_valu
 -- ---- examples
 
 -- of three processors the middle one posts and awaits both others; the last one awaits its left neighbour alone
-pub both-middle : both_deeds 3 1 7 ≡ posting counter 7 ∷ awaiting counter 0 7 ∷ awaiting counter 2 7 ∷ []
+pub both-middle : both_deeds 3 1 7 ≡ posting counter 7 ∷ awaiting counter 0 7 ∷ awaiting counter 2 7
+    ∷ []
 both-middle = refl
 
 pub left-last : left_deeds 3 2 7 ≡ awaiting counter 1 7 ∷ []

@@ -31,11 +31,13 @@ went threads s p = went_by s p (next_deed threads s p)
 
 -- the state behind a schedule, a list of processor numbers, from cells, counters and output that are 0 and empty
 abbrev pub threads_run : Tree → Plan → Nodes → List ℕ → State
-threads_run tree plan code schedule = fold (went (threads_of tree plan code)) (first_state (machine_by Arrive tree plan)) schedule
+threads_run tree plan code schedule =
+    fold (went (threads_of tree plan code)) (first_state (machine_by Arrive tree plan)) schedule
 
 -- each processor has gone through all that it has to do
 abbrev pub AreDone : Tree → Plan → Nodes → State → Type 0
-AreDone tree plan code s = (p : ℕ) → p < plan.workers → slice_index s.positions p ≡ length (code_deeds tree plan p code)
+AreDone tree plan code s =
+    (p : ℕ) → p < plan.workers → slice_index s.positions p ≡ length (code_deeds tree plan p code)
 
 -- some processor's next deed is possible
 pub record CanGoOn (tree : Tree) (plan : Plan) (code : Nodes) (s : State) : Type 0 where

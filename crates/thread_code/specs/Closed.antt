@@ -29,7 +29,8 @@ modulo a b = if int_lt (int_rem a b) (pos 0) then int_rem a b +ℤ b else int_re
 -- the least and the greatest value of a loop in the block of processor p, where the form is rest + rise * value
 abbrev pub low_value : ℕ → ℕ → ℤ → ℤ → ℤ
 low_value length p rest (pos d) = raised (pos (length * p) -ℤ rest) (pos d)
-low_value length p rest (negsuc d) = raised (rest -ℤ (pos (length * p + length) -ℤ pos 1)) (pos (suc d))
+low_value length p rest (negsuc d) =
+    raised (rest -ℤ (pos (length * p + length) -ℤ pos 1)) (pos (suc d))
 
 abbrev pub high_value : ℕ → ℕ → ℤ → ℤ → ℤ
 high_value length p rest (pos d) = floored (pos (length * p + length) -ℤ pos 1 -ℤ rest) (pos d)
@@ -37,11 +38,15 @@ high_value length p rest (negsuc d) = floored (rest -ℤ pos (length * p)) (pos 
 
 -- for (i = m1 + s * larger(0, raised(low - m1, s)); i <= smaller(m2, high); i += s), and downwards where s is below 0
 abbrev pub window : ℤ → ℤ → ℤ → ℤ → ℤ → List ℤ
-window m1 m2 low high (pos s) = trips (m1 +ℤ (int_max (pos 0) (raised (low -ℤ m1) (pos s)) *ℤ pos s)) (int_min m2 high) (pos s)
-window m1 m2 low high (negsuc s) = trips (m1 +ℤ (int_max (pos 0) (raised (m1 -ℤ high) (pos (suc s))) *ℤ negsuc s)) (int_max m2 low) (negsuc s)
+window m1 m2 low high (pos s) =
+    trips (m1 +ℤ (int_max (pos 0) (raised (low -ℤ m1) (pos s)) *ℤ pos s)) (int_min m2 high) (pos s)
+window m1 m2 low high (negsuc s) = trips
+    (m1 +ℤ (int_max (pos 0) (raised (m1 -ℤ high) (pos (suc s))) *ℤ negsuc s)) (int_max m2 low)
+    (negsuc s)
 
 abbrev pub block_values : ℕ → ℕ → ℤ → ℤ → ℤ → ℤ → ℤ → List ℤ
-block_values length p rest rise m1 m2 s = window m1 m2 (low_value length p rest rise) (high_value length p rest rise) s
+block_values length p rest rise m1 m2 s =
+    window m1 m2 (low_value length p rest rise) (high_value length p rest rise) s
 
 -- ---- places in turn
 
@@ -67,10 +72,13 @@ IsSamePlace workers a b = int_rem_euclid a (pos workers) ≡ int_rem_euclid b (p
 -- y = modulo(p - start, P); if (y % g == 0) for (i = m1 + s * (y / g * factor % stride); ..; i += s * stride)
 abbrev pub turn_from : Turning → ℤ → ℤ → ℤ → ℕ → List ℤ
 turn_from t m1 m2 s y =
-    if y % t.divisor == 0 then trips (m1 +ℤ (pos (y / t.divisor * t.factor % t.stride) *ℤ s)) m2 (pos t.stride *ℤ s) else []
+    if y % t.divisor == 0
+    then trips (m1 +ℤ (pos (y / t.divisor * t.factor % t.stride) *ℤ s)) m2 (pos t.stride *ℤ s)
+    else []
 
 abbrev pub turn_values : ℕ → Turning → ℕ → ℤ → ℤ → ℤ → ℤ → List ℤ
-turn_values workers t p start m1 m2 s = turn_from t m1 m2 s (count_of (modulo (pos p -ℤ start) (pos workers)))
+turn_values workers t p start m1 m2 s =
+    turn_from t m1 m2 s (count_of (modulo (pos p -ℤ start) (pos workers)))
 
 -- ---- examples
 
@@ -79,8 +87,10 @@ pub block-down : block_values 4 2 (negsuc 2) (pos 2) (pos 9) (pos 2) (negsuc 1) 
 block-down = refl
 
 -- of I = 1 to 8 with the place 4 * I in turn among six processor 2 has I = 2, 5 and 8, and processor 3 has none: 2 divides both 4 and 6, and 4 * 2 is 2 but for 6
-pub turn-some : turn_values 6 (record { divisor = 2; factor = 2; stride = 3 }) 2 (pos 4) (pos 1) (pos 8) (pos 1) ≡ pos 2 ∷ pos 5 ∷ pos 8 ∷ []
+pub turn-some : turn_values 6 (record { divisor = 2; factor = 2; stride = 3 }) 2 (pos 4) (pos 1)
+    (pos 8) (pos 1) ≡ pos 2 ∷ pos 5 ∷ pos 8 ∷ []
 turn-some = refl
 
-pub turn-none : turn_values 6 (record { divisor = 2; factor = 2; stride = 3 }) 3 (pos 4) (pos 1) (pos 8) (pos 1) ≡ []
+pub turn-none : turn_values 6 (record { divisor = 2; factor = 2; stride = 3 }) 3 (pos 4) (pos 1)
+    (pos 8) (pos 1) ≡ []
 turn-none = refl

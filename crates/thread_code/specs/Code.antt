@@ -26,7 +26,8 @@ pub data Finding : Type 0 where
 
 -- a processor's share of a phase: its own trips of a loop that an anchor deals out, with own cells for these scalars; a piece of work, where an anchor names the processor; or nothing
 pub data Share : Type 0 where
-  trips_of : (anchor : Anchor) (finding : Finding) (head : Head) (body : Statements) (privates sums : List ℕ) → Share
+  trips_of : (anchor : Anchor) (finding : Finding) (head : Head) (body : Statements)
+      (privates sums : List ℕ) → Share
   work_of : (anchor : Anchor) (w : Work) → Share
   no_share : Share
 
@@ -52,14 +53,22 @@ abbrev pub times_pairs : ℤ → List (ℕ × ℤ) → List (ℕ × ℤ)
 times_pairs c pairs = map (λ p. (p.0, c *ℤ p.1)) pairs
 
 abbrev pub plus_times : Form → ℤ → Form → Form
-plus_times f c g = record { constant = f.constant +ℤ c *ℤ g.constant; loops = f.loops ++ times_pairs c g.loops; params = f.params ++ times_pairs c g.params }
+plus_times f c g = record {
+  constant = f.constant +ℤ c *ℤ g.constant;
+  loops = f.loops ++ times_pairs c g.loops;
+  params = f.params ++ times_pairs c g.params;
+}
 
 -- a form whose values are the same but for multiples of the workers, with numbers from 0 to below them
 abbrev pub reduced_pairs : ℕ → List (ℕ × ℤ) → List (ℕ × ℤ)
 reduced_pairs workers pairs = map (λ p. (p.0, int_rem_euclid p.1 (pos workers))) pairs
 
 abbrev pub reduced : ℕ → Form → Form
-reduced workers f = record { constant = int_rem_euclid f.constant (pos workers); loops = reduced_pairs workers f.loops; params = reduced_pairs workers f.params }
+reduced workers f = record {
+  constant = int_rem_euclid f.constant (pos workers);
+  loops = reduced_pairs workers f.loops;
+  params = reduced_pairs workers f.params;
+}
 
 -- ---- the code of a program under a plan
 
@@ -69,9 +78,11 @@ Table = ℕ → Turning
 
 -- by a form that names a loop with this coefficient
 abbrev pub named_finding : Table → ℕ → Form → Dist → Head → ℤ → Finding
-named_finding table workers f (Block length) head rise = in_block length (without head.number f) rise
+named_finding table workers f (Block length) head rise =
+    in_block length (without head.number f) rise
 named_finding table workers f Cyclic head rise =
-    in_turn (reduced workers (plus_times (without head.number f) rise head.m1)) (table (count_of (int_rem_euclid (rise *ℤ head.step) (pos workers))))
+    in_turn (reduced workers (plus_times (without head.number f) rise head.m1))
+    (table (count_of (int_rem_euclid (rise *ℤ head.step) (pos workers))))
 
 abbrev pub finding_by : Table → ℕ → Anchor → Head → Finding
 finding_by table workers a head =
@@ -83,18 +94,21 @@ abbrev pub up_to_sixteen : List ℕ → List ℕ
 up_to_sixteen vs = if nat_le (length vs) 16 then vs else []
 
 abbrev pub sums_in : Cutting → Head → Statements → List ℕ
-sums_in cut head body = if is_sum_mark (mark_of cut.marks head.number) then up_to_sixteen (sum_scalars body) else []
+sums_in cut head body =
+    if is_sum_mark (mark_of cut.marks head.number) then up_to_sixteen (sum_scalars body) else []
 
 abbrev pub share_by : Table → Plan → Option Anchor → Statement → Share
 share_by table plan None s = no_share
 share_by table plan (Some a) (do_loop head body) =
-    trips_of a (finding_by table plan.workers a head) head body (privates_of plan.cut.privates head.number) (sums_in plan.cut head body)
+    trips_of a (finding_by table plan.workers a head) head body
+    (privates_of plan.cut.privates head.number) (sums_in plan.cut head body)
 share_by table plan (Some a) (work w) = work_of a w
 share_by table plan (Some a) (continue line) = no_share
 
 -- the phase with this place, from 1
 abbrev pub phase_at : Table → Plan → Statement → ℕ → Node
-phase_at table plan s place = phase (slice_get plan.kinds (place - 1)) (share_by table plan (slice_get plan.anchors (place - 1)) s)
+phase_at table plan s place = phase (slice_get plan.kinds (place - 1))
+    (share_by table plan (slice_get plan.anchors (place - 1)) s)
 
 -- the code of statements, of which the first phase has this place
 abbrev mutual
@@ -108,7 +122,8 @@ abbrev mutual
   pub codes_in : Table → Plan → Statements → ℕ → Nodes
   codes_in table plan done place = end
   codes_in table plan (next s rest) place =
-      one_then (code_in table plan s place) (codes_in table plan rest (place + stops_in (enters_outer plan.cut.marks) s))
+      one_then (code_in table plan s place) (codes_in table plan rest
+      (place + stops_in (enters_outer plan.cut.marks) s))
 
 abbrev pub codes_of : Table → Tree → Plan → Nodes
 codes_of table tree plan = codes_in table plan tree.items 1

@@ -28,7 +28,8 @@ work_view a (continue line) = no_share
 
 abbrev pub share_view : Part → Share
 share_view (Parts.Trips it) =
-    trips_of it.anchor (finding_view it.trips) (head_of it.nest.now) (statements_from it.nest.now.items.items) it.privates.items it.sums.items
+    trips_of it.anchor (finding_view it.trips) (head_of it.nest.now)
+    (statements_from it.nest.now.items.items) it.privates.items it.sums.items
 share_view (Parts.Work anchor item) = work_view anchor (statement_of item.now)
 share_view Parts.Nothing = no_share
 

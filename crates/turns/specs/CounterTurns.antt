@@ -36,16 +36,21 @@ counter_room tree (works i) = longest_line tree i.what
 
 -- in front of a phase
 abbrev pub boundary_turns : ℕ → Bool → List ℕ → List CounterTurn
-boundary_turns number does awaited = (if does then posts number ∷ [] else []) ++ map (λ q. awaits q number) awaited
+boundary_turns number does awaited =
+    (if does then posts number ∷ [] else []) ++ map (λ q. awaits q number) awaited
 
 abbrev pub phase_turns : Tree → Plan → ℕ → ℕ → Visit → List CounterTurn
 phase_turns tree plan p e v =
-    boundary_turns (e - 1) (posts_at tree plan p v.place v.loops) (waits_for tree plan p v.place v.loops) ++ begins e ∷ map works (owned_by tree (slice_get plan.anchors (v.place - 1)) plan.workers p v)
+    boundary_turns (e - 1) (posts_at tree plan p v.place v.loops)
+    (waits_for tree plan p v.place v.loops)
+    ++ begins e ∷ map works (owned_by tree (slice_get plan.anchors (v.place - 1)) plan.workers p
+    v)
 
 -- in phases of which the first has this number
 abbrev pub counter_turns : Tree → Plan → ℕ → ℕ → List Visit → List CounterTurn
 counter_turns tree plan p e [] = []
-counter_turns tree plan p e (v ∷ rest) = phase_turns tree plan p e v ++ counter_turns tree plan p (suc e) rest
+counter_turns tree plan p e (v ∷ rest) =
+    phase_turns tree plan p e v ++ counter_turns tree plan p (suc e) rest
 
 -- each access of an instance is in range
 abbrev pub is_counter_inside : Tree → CounterTurn → Bool
@@ -64,7 +69,9 @@ without_beginnings (works i ∷ rest) = works i ∷ rest
 
 -- how so many processors pass a boundary of this kind, and the one with so many phases in front of it
 abbrev pub boundary_by : Option Kind → ℕ → Boundary
-boundary_by kind workers = if is_join kind then Join else if is_barrier kind && nat_lt 1 workers then Barrier else Counters
+boundary_by kind workers =
+    if is_join kind then Join else if is_barrier kind && nat_lt 1 workers then Barrier else Counters
 
 abbrev pub boundary_at : Tree → Plan → ℕ → Boundary
-boundary_at tree plan number = boundary_by (kind_before plan (slice_get (phases tree plan.cut.marks) number)) plan.workers
+boundary_at tree plan number =
+    boundary_by (kind_before plan (slice_get (phases tree plan.cut.marks) number)) plan.workers

@@ -59,14 +59,19 @@ counters_left c =
     boundary_turns c.number c.posts (members c.awaits)
     ++ (begun_by c.begins
     ++ (map works (come_of (counters_tree c) (counters_rounds c) c.come)
-    ++ (map works (instances_left c.own) ++ counter_turns (counters_tree c) (counters_plan c) c.processor (suc (phases_passed c.phases)) (phases_left c.phases))))
+    ++ (map works (instances_left c.own) ++ counter_turns (counters_tree c) (counters_plan c)
+    c.processor (suc (phases_passed c.phases)) (phases_left c.phases))))
 
 -- what comes next, and at a boundary how it is passed
 abbrev pub IsCounterNext : CounterTurns → CounterNext → Type 0
-IsCounterNext c (Post number) = (rest : List CounterTurn) × (counters_left c ≡ posts number ∷ rest) × (counters_boundary c ≡ boundary_at (counters_tree c) (counters_plan c) number)
-IsCounterNext c (Await on wanted) = (rest : List CounterTurn) × (counters_left c ≡ awaits on wanted ∷ rest) × (counters_boundary c ≡ boundary_at (counters_tree c) (counters_plan c) wanted)
+IsCounterNext c (Post number) = (rest : List CounterTurn) × (counters_left c ≡ posts number ∷ rest)
+    × (counters_boundary c ≡ boundary_at (counters_tree c) (counters_plan c) number)
+IsCounterNext c (Await on wanted) = (rest : List CounterTurn)
+    × (counters_left c ≡ awaits on wanted ∷ rest)
+    × (counters_boundary c ≡ boundary_at (counters_tree c) (counters_plan c) wanted)
 IsCounterNext c (Phase e) = (rest : List CounterTurn) × (counters_left c ≡ begins e ∷ rest)
-IsCounterNext c (Work stop) = (at : IsInstance (counters_tree c) (counters_rounds c) stop) × (rest : List CounterTurn) × (counters_left c ≡ works at.instance ∷ rest)
+IsCounterNext c (Work stop) = (at : IsInstance (counters_tree c) (counters_rounds c) stop)
+    × (rest : List CounterTurn) × (counters_left c ≡ works at.instance ∷ rest)
 IsCounterNext c End = counters_left c ≡ []
 
 -- a post of this number comes next, or an await
@@ -88,10 +93,13 @@ at_turn c = c.posts || not (c.awaits == 0) || is_some c.begins || is_some c.come
 -- how far it is to the end: instances of this phase, later phases, and their instances
 abbrev pub phases_to_go : Tree → Plan → ℕ → List Visit → ℕ
 phases_to_go tree plan p [] = 0
-phases_to_go tree plan p (v ∷ rest) = suc (length (owned_by tree (slice_get plan.anchors (v.place - 1)) plan.workers p v)) + phases_to_go tree plan p rest
+phases_to_go tree plan p (v ∷ rest) = suc
+    (length (owned_by tree (slice_get plan.anchors (v.place - 1)) plan.workers p v))
+    + phases_to_go tree plan p rest
 
 abbrev pub to_go : CounterTurns → ℕ
-to_go c = length (instances_left c.own) + phases_to_go (counters_tree c) (counters_plan c) c.processor (phases_left c.phases)
+to_go c = length (instances_left c.own) + phases_to_go (counters_tree c) (counters_plan c)
+    c.processor (phases_left c.phases)
 
 -- the instance that has come is one
 abbrev pub IsOne : Tree → List Round → Option Stop → Type 0
@@ -101,7 +109,8 @@ IsOne tree rounds (Some stop) = IsInstance tree rounds stop
 -- the phase that begins is of the static phase with this place
 abbrev pub IsBegun : Tree → Plan → ℕ → Option ℕ → Type 0
 IsBegun tree plan place None = Unit {0}
-IsBegun tree plan place (Some e) = (v : Visit) × (slice_get (phases tree plan.cut.marks) (e - 1) ≡ Some v) × (place ≡ v.place)
+IsBegun tree plan place (Some e) =
+    (v : Visit) × (slice_get (phases tree plan.cut.marks) (e - 1) ≡ Some v) × (place ≡ v.place)
 
 -- at a boundary it is known how it is passed, and the phase behind it has still to begin
 pub record IsInFront (c : CounterTurns) : Type 0 where
@@ -116,7 +125,8 @@ pub record AreSoundCounters (c : CounterTurns) : Type 0 where
   pub walked : phases_tree c.phases ≡ counters_tree c
   pub owned : instances_tree c.own ≡ counters_tree c
   pub entered : phases_enters c.phases ≡ enters_outer (counters_plan c).cut.marks
-  pub behind : phases_left c.phases ≡ drop (phases_passed c.phases) (phases (counters_tree c) (counters_plan c).cut.marks)
+  pub behind : phases_left c.phases ≡ drop (phases_passed c.phases)
+      (phases (counters_tree c) (counters_plan c).cut.marks)
   pub boundary : (c.posts || not (c.awaits == 0)) ≡ true → IsInFront c
   pub begun : IsBegun (counters_tree c) (counters_plan c) c.place c.begins
   pub one : IsOne (counters_tree c) (counters_rounds c) c.come

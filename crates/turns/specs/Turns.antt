@@ -40,8 +40,11 @@ scalar_at own k = if nat_lt k 16 then slice_index own.privates k else slice_inde
 
 abbrev pub close_deeds : Tree → Plan → ℕ → ℕ → ℕ → List Deed
 close_deeds tree plan p place k =
-    if nat_lt k 16 then keeping_deeds ((own_of tree plan place).cell p k) (first_cell tree (scalar_at (own_loop tree plan place) k))
-    else totalling_deeds ((own_of tree plan place).cell p k) (first_cell tree (scalar_at (own_loop tree plan place) k))
+    if nat_lt k 16
+    then keeping_deeds ((own_of tree plan place).cell p k)
+    (first_cell tree (scalar_at (own_loop tree plan place) k))
+    else totalling_deeds ((own_of tree plan place).cell p k)
+    (first_cell tree (scalar_at (own_loop tree plan place) k))
 
 -- of processor p
 abbrev pub turn_deeds : Tree → Plan → ℕ → Turn → List Deed
@@ -70,7 +73,8 @@ runs_only test (closes place k) = true
 
 -- some phase of a plan has own scalars; phases have to be watched: some may have, or signals pass barriers
 abbrev pub has_own : Plan → Bool
-has_own plan = list_any is_sum_mark plan.cut.marks || list_any (λ (l : List ℕ). not (length l == 0)) plan.cut.privates
+has_own plan = list_any is_sum_mark plan.cut.marks
+    || list_any (λ (l : List ℕ). not (length l == 0)) plan.cut.privates
 
 abbrev pub is_watched : Style → Plan → Bool
 is_watched Arrive plan = has_own plan
@@ -130,24 +134,33 @@ closed s = record s { pending = none_pending }
 
 -- one half of a round of a barrier by signals, whose first round has this number: its signal, or its await
 abbrev pub round_turn : ℕ → ℕ → ℕ → ℕ → Turn
-round_turn workers p first step = if step % 2 == 0 then sets signal (first + step / 2) else waits signal (awaited_in_round workers (step / 2) p) (first + step / 2)
+round_turn workers p first step = if step % 2 == 0
+    then sets signal (first + step / 2)
+    else waits signal (awaited_in_round workers (step / 2) p) (first + step / 2)
 
 -- of a barrier with so many such barriers in front of it
 abbrev pub first_round : ℕ → ℕ → ℕ
 first_round workers barriers = barriers * rounds_of workers + 1
 
 abbrev pub all_rounds : ℕ → ℕ → ℕ → List Turn
-all_rounds workers p barriers = map (round_turn workers p (first_round workers barriers)) (range_with_len 0 (rounds_of workers * 2))
+all_rounds workers p barriers = map (round_turn workers p (first_round workers barriers))
+    (range_with_len 0 (rounds_of workers * 2))
 
 abbrev pub rounds_before : Style → Tree → Plan → ℕ → Standing → ℕ → List Turn
-rounds_before style tree plan p s e = if has_signals style plan (slice_get (phases tree plan.cut.marks) (e - 1)) then all_rounds plan.workers p s.barriers else []
+rounds_before style tree plan p s e = if has_signals style plan
+    (slice_get (phases tree plan.cut.marks) (e - 1)) then all_rounds plan.workers p s.barriers
+    else []
 
 -- where the phase with a number has begun
 abbrev pub begun : Style → Tree → Plan → Standing → ℕ → Standing
 begun style tree plan s e = record {
-  place = if is_watched style plan then place_of (slice_get (phases tree plan.cut.marks) (e - 1)) else no_phase;
+  place = if is_watched style plan
+      then place_of (slice_get (phases tree plan.cut.marks) (e - 1))
+      else no_phase;
   pending = none_pending;
-  barriers = if has_signals style plan (slice_get (phases tree plan.cut.marks) (e - 1)) then suc s.barriers else s.barriers;
+  barriers = if has_signals style plan (slice_get (phases tree plan.cut.marks) (e - 1))
+      then suc s.barriers
+      else s.barriers;
 }
 
 -- no trip of a static phase's loop is left behind these values
@@ -172,17 +185,27 @@ mark_first pending n true = replicate n true ++ drop n pending
 -- behind an instance: the sum scalar that it assigns is to be closed, and in the last trip the private ones
 abbrev pub behind : Tree → Plan → Standing → Instance → Standing
 behind tree plan s i = record s {
-  pending = mark_first (mark_place s.pending (assigned_place (own_loop tree plan s.place).sums (work i.what))) (length (own_loop tree plan s.place).privates)
-      (ends_phase (param_values tree) (slice_get (static_phases tree plan.cut.marks) (s.place - 1)) i.loops);
+  pending = mark_first (mark_place s.pending
+      (assigned_place (own_loop tree plan s.place).sums (work i.what)))
+      (length (own_loop tree plan s.place).privates)
+      (ends_phase (param_values tree) (slice_get (static_phases tree plan.cut.marks) (s.place - 1))
+      i.loops);
 }
 
 -- the turns that these counter turns are: behind a phase's instances its closings, and in place of counters at a barrier the rounds of its signals
 abbrev pub turns_by : Style → Tree → Plan → ℕ → Standing → List CounterTurn → List Turn
 turns_by style tree plan p s [] = closings s
-turns_by style tree plan p s (posts number ∷ rest) = closings s ++ ((if is_signalled style tree plan number then [] else sets counter number ∷ []) ++ turns_by style tree plan p (closed s) rest)
-turns_by style tree plan p s (awaits on wanted ∷ rest) = closings s ++ ((if is_signalled style tree plan wanted then [] else waits counter on wanted ∷ []) ++ turns_by style tree plan p (closed s) rest)
-turns_by style tree plan p s (begins e ∷ rest) = closings s ++ (rounds_before style tree plan p s e ++ turns_by style tree plan p (begun style tree plan s e) rest)
-turns_by style tree plan p s (works i ∷ rest) = runs s.place i ∷ turns_by style tree plan p (behind tree plan s i) rest
+turns_by style tree plan p s (posts number ∷ rest) = closings s
+    ++ ((if is_signalled style tree plan number then [] else sets counter number ∷ [])
+    ++ turns_by style tree plan p (closed s) rest)
+turns_by style tree plan p s (awaits on wanted ∷ rest) = closings s
+    ++ ((if is_signalled style tree plan wanted then [] else waits counter on wanted ∷ [])
+    ++ turns_by style tree plan p (closed s) rest)
+turns_by style tree plan p s (begins e ∷ rest) = closings s
+    ++ (rounds_before style tree plan p s e
+    ++ turns_by style tree plan p (begun style tree plan s e) rest)
+turns_by style tree plan p s (works i ∷ rest) =
+    runs s.place i ∷ turns_by style tree plan p (behind tree plan s i) rest
 
 -- the phases that begin among counter turns, by their numbers
 abbrev pub beginnings : List CounterTurn → List ℕ

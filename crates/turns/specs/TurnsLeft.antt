@@ -63,11 +63,14 @@ standing c = record { place = c.place; pending = c.pending; barriers = c.barrier
 
 -- the rounds that are left of a barrier of so many processors, whose first round has this number, behind so many half rounds of them all
 abbrev pub rounds_left : ℕ → ℕ → ℕ → ℕ → ℕ → List Turn
-rounds_left workers p first step steps = map (round_turn workers p first) (range_with_len step (steps - step))
+rounds_left workers p first step steps =
+    map (round_turn workers p first) (range_with_len step (steps - step))
 
 -- what is left
 abbrev pub turns_left : Turns → List Turn
-turns_left c = rounds_left (turns_plan c).workers (turns_processor c) c.first c.step c.steps ++ turns_by c.style (turns_tree c) (turns_plan c) (turns_processor c) (standing c) (counters_left c.counters)
+turns_left c = rounds_left (turns_plan c).workers (turns_processor c) c.first c.step c.steps
+    ++ turns_by c.style (turns_tree c) (turns_plan c) (turns_processor c) (standing c)
+    (counters_left c.counters)
 
 -- the phases that have still to begin
 abbrev pub beginnings_left : Turns → List ℕ
@@ -83,11 +86,14 @@ abbrev pub IsOwnPlace : OwnLoop → ℕ → Type 0
 IsOwnPlace own k = (k < length own.privates) ⊎ ((16 ≤ k) × (k - 16 < length own.sums))
 
 -- these are the own scalars of the static phase with this place, and its loop, where it has private ones; those that pend are among them
-pub record KnowsOwn (tree : Tree) (plan : Plan) (place : ℕ) (own : OwnCells) (nest : Option (Bor Nest)) (pending : List Bool) : Type 0 where
+pub record KnowsOwn (tree : Tree) (plan : Plan) (place : ℕ) (own : OwnCells)
+    (nest : Option (Bor Nest)) (pending : List Bool) : Type 0 where
   pub few : AreFew tree (own_loop tree plan place)
   pub cells : AreOwnCells tree (own_loop tree plan place) own
-  pub loop : MatchOption nest ((own_loop tree plan place).privates ≡ []) (λ n. IsPlaced (slice_get (static_phases tree plan.cut.marks) (place - 1)) n.now)
-  pub among : (k : ℕ) → slice_index_or pending k false ≡ true → IsOwnPlace (own_loop tree plan place) k
+  pub loop : MatchOption nest ((own_loop tree plan place).privates ≡ [])
+      (λ n. IsPlaced (slice_get (static_phases tree plan.cut.marks) (place - 1)) n.now)
+  pub among : (k : ℕ) → slice_index_or pending k false ≡ true
+      → IsOwnPlace (own_loop tree plan place) k
 
 -- where phases aren't watched nothing pends
 pub record WatchesNone (place : ℕ) (pending : List Bool) (step steps : ℕ) : Type 0 where
@@ -156,11 +162,14 @@ pub record ShowsClosing (c : Turns) (k : ℕ) : Type 0 where
 
 -- what comes next
 abbrev pub IsNext : Turns → Next → Type 0
-IsNext c (Post number) = ComesFirst c (sets counter number) × ShowsCounter c (Plain.Post number) number
-IsNext c (Await on wanted) = ComesFirst c (waits counter on wanted) × ShowsCounter c (Plain.Await on wanted) wanted
+IsNext c (Post number) =
+    ComesFirst c (sets counter number) × ShowsCounter c (Plain.Post number) number
+IsNext c (Await on wanted) =
+    ComesFirst c (waits counter on wanted) × ShowsCounter c (Plain.Await on wanted) wanted
 IsNext c (Signal number) = ComesFirst c (sets signal number) × (c.step < c.steps)
 IsNext c (AwaitSignal on wanted) = ComesFirst c (waits signal on wanted) × (c.step < c.steps)
-IsNext c (Work stop) = (at : IsInstance (counters_tree c.counters) (turns_rounds c) stop) × ComesFirst c (runs c.place at.instance) × ShowsPlain c (Plain.Work stop)
+IsNext c (Work stop) = (at : IsInstance (counters_tree c.counters) (turns_rounds c) stop)
+    × ComesFirst c (runs c.place at.instance) × ShowsPlain c (Plain.Work stop)
 IsNext c (Close k) = ComesFirst c (closes c.place k) × ShowsClosing c k
 IsNext c End = turns_left c ≡ []
 
@@ -178,7 +187,8 @@ pub record BeginsNext (c : Turns) (e : ℕ) : Type 0 where
 -- the next phase has begun, or none has and what comes next is known
 abbrev pub IsNextOrPhase : Turns → Turns → NextOrPhase → Type 0
 IsNextOrPhase old new (Coming.Phase e) = beginnings_left old ≡ e ∷ beginnings_left new
-IsNextOrPhase old new (Coming.Turn next) = IsNext new next × (beginnings_left new ≡ beginnings_left old)
+IsNextOrPhase old new (Coming.Turn next) =
+    IsNext new next × (beginnings_left new ≡ beginnings_left old)
 
 -- at the end no counter turn is left either
 abbrev pub EndsPlainly : Turns → Next → Type 0
@@ -192,16 +202,22 @@ EndsPlainly c End = counters_left c.counters ≡ []
 
 -- by counters: of the counter turns a phase that has begun goes, in front of which nothing pends, and none behind a look at what comes next
 abbrev pub LooksPlainly : Turns → Turns → NextOrPhase → Type 0
-LooksPlainly old new (Coming.Phase e) = (places_pending old.pending ≡ []) × (counters_left old.counters ≡ begins e ∷ counters_left new.counters)
-LooksPlainly old new (Coming.Turn next) = (counters_left new.counters ≡ counters_left old.counters) × EndsPlainly new next
+LooksPlainly old new (Coming.Phase e) = (places_pending old.pending ≡ [])
+    × (counters_left old.counters ≡ begins e ∷ counters_left new.counters)
+LooksPlainly old new (Coming.Turn next) =
+    (counters_left new.counters ≡ counters_left old.counters) × EndsPlainly new next
 
 -- behind what came next the first counter turn has gone: a closing and half a round are none
 abbrev pub PassesPlainly : Turns → Turns → Next → Type 0
-PassesPlainly old new (Post number) = (t : CounterTurn) × (counters_left old.counters ≡ t ∷ counters_left new.counters)
-PassesPlainly old new (Await on wanted) = (t : CounterTurn) × (counters_left old.counters ≡ t ∷ counters_left new.counters)
+PassesPlainly old new (Post number) =
+    (t : CounterTurn) × (counters_left old.counters ≡ t ∷ counters_left new.counters)
+PassesPlainly old new (Await on wanted) =
+    (t : CounterTurn) × (counters_left old.counters ≡ t ∷ counters_left new.counters)
 PassesPlainly old new (Signal number) = counters_left new.counters ≡ counters_left old.counters
-PassesPlainly old new (AwaitSignal on wanted) = counters_left new.counters ≡ counters_left old.counters
-PassesPlainly old new (Work stop) = (t : CounterTurn) × (counters_left old.counters ≡ t ∷ counters_left new.counters)
+PassesPlainly old new (AwaitSignal on wanted) =
+    counters_left new.counters ≡ counters_left old.counters
+PassesPlainly old new (Work stop) =
+    (t : CounterTurn) × (counters_left old.counters ≡ t ∷ counters_left new.counters)
 PassesPlainly old new (Close k) = counters_left new.counters ≡ counters_left old.counters
 PassesPlainly old new End = counters_left new.counters ≡ counters_left old.counters
 
@@ -217,8 +233,10 @@ IsTurn End = ⊥
 
 -- a counter turn that comes next is nothing here: a phase begins, or it is of the counters of a barrier that is passed by signals
 abbrev pub IsSilentTurn : Turns → CounterNext → Type 0
-IsSilentTurn c (Plain.Post number) = is_signalled c.style (turns_tree c) (turns_plan c) number ≡ true
-IsSilentTurn c (Plain.Await on wanted) = is_signalled c.style (turns_tree c) (turns_plan c) wanted ≡ true
+IsSilentTurn c (Plain.Post number) =
+    is_signalled c.style (turns_tree c) (turns_plan c) number ≡ true
+IsSilentTurn c (Plain.Await on wanted) =
+    is_signalled c.style (turns_tree c) (turns_plan c) wanted ≡ true
 IsSilentTurn c (Plain.Phase e) = Unit {0}
 IsSilentTurn c (Plain.Work stop) = ⊥
 IsSilentTurn c Plain.End = ⊥
@@ -231,7 +249,8 @@ pub record IsSilent (c : Turns) (next : CounterNext) : Type 0 where
 -- it is something, where no round is left and nothing pends
 abbrev pub IsSomeTurn : Turns → CounterNext → Type 0
 IsSomeTurn c (Plain.Post number) = is_signalled c.style (turns_tree c) (turns_plan c) number ≡ false
-IsSomeTurn c (Plain.Await on wanted) = is_signalled c.style (turns_tree c) (turns_plan c) wanted ≡ false
+IsSomeTurn c (Plain.Await on wanted) =
+    is_signalled c.style (turns_tree c) (turns_plan c) wanted ≡ false
 IsSomeTurn c (Plain.Phase e) = ⊥
 IsSomeTurn c (Plain.Work stop) = Unit {0}
 IsSomeTurn c Plain.End = Unit {0}
@@ -239,7 +258,8 @@ IsSomeTurn c Plain.End = Unit {0}
 -- a round is left, or something pends, or it is something
 pub data IsOpen (c : Turns) (next : CounterNext) : Type 0 where
   in_rounds : c.step < c.steps → IsOpen c next
-  pends : c.step ≡ c.steps → (k : ℕ) → (later : List ℕ) → places_pending c.pending ≡ k ∷ later → IsOpen c next
+  pends : c.step ≡ c.steps → (k : ℕ) → (later : List ℕ) → places_pending c.pending ≡ k ∷ later
+      → IsOpen c next
   turns : c.step ≡ c.steps → IsSomeTurn c next → IsOpen c next
 
 -- what a look at the counter turns found
@@ -276,4 +296,6 @@ pub record IsBeforeBeginning (c : Turns) : Type 0 where
 abbrev pub EndsAlike : Turns → List Bool → Bool → List ℤ → Type 0
 EndsAlike c pending ends loops =
     mark_first pending (length (own_loop (turns_tree c) (turns_plan c) c.place).privates) ends
-    ≡ mark_first pending (length (own_loop (turns_tree c) (turns_plan c) c.place).privates) (ends_phase (param_values (turns_tree c)) (slice_get (static_phases (turns_tree c) (turns_plan c).cut.marks) (c.place - 1)) loops)
+    ≡ mark_first pending (length (own_loop (turns_tree c) (turns_plan c) c.place).privates)
+    (ends_phase (param_values (turns_tree c))
+    (slice_get (static_phases (turns_tree c) (turns_plan c).cut.marks) (c.place - 1)) loops)

@@ -18,7 +18,8 @@ TakesBytes old new count = (bytes : List ℕ) × Consumes old new bytes × (leng
 
 -- a part from the front of a text was written
 abbrev pub WritesPart : Option (List ℕ) → Option (List ℕ) → List ℕ → Type 0
-WritesPart old new text = (front : List ℕ) × (rest : List ℕ) × (text ≡ front ++ rest) × Appends old new front
+WritesPart old new text =
+    (front : List ℕ) × (rest : List ℕ) × (text ≡ front ++ rest) × Appends old new front
 
 -- one of two counts rose
 abbrev pub RoseOneOf : ℕ → ℕ → ℕ → ℕ → Type 0
@@ -26,4 +27,5 @@ RoseOneOf faults faults' empties empties' = Rose faults faults' ⊎ Rose empties
 
 -- no count rose: neither the source's faults, nor the sink's faults and empty answers
 abbrev pub NoneRose : ℕ → ℕ → ℕ → ℕ → ℕ → ℕ → Type 0
-NoneRose reads reads' faults faults' empties empties' = ¬ Rose reads reads' × ¬ RoseOneOf faults faults' empties empties'
+NoneRose reads reads' faults faults' empties empties' =
+    ¬ Rose reads reads' × ¬ RoseOneOf faults faults' empties empties'
